@@ -1,0 +1,4 @@
+//! Exact ratios: entry, lowest terms, six exponents, printing, pitch.
+
+pub mod fault;
+pub mod ratio;
