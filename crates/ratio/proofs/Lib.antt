@@ -1,1 +1,4 @@
 pub mod Divides
+pub mod Factoring
+pub mod Lowest
+pub mod Multiplicities

@@ -1,4 +1,5 @@
 //! Exact ratios: entry, lowest terms, six exponents, printing, pitch.
 
+pub mod entry;
 pub mod fault;
 pub mod ratio;
