@@ -2,3 +2,4 @@ pub mod Products
 pub mod Faults
 pub mod Entry
 pub mod Factors
+pub mod Printing

@@ -2,4 +2,5 @@
 
 pub mod entry;
 pub mod fault;
+pub mod print;
 pub mod ratio;
