@@ -1,1 +1,3 @@
 pub mod Divides
+pub mod Same
+pub mod Limits
