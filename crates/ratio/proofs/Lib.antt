@@ -1,3 +1,4 @@
 pub mod Divides
 pub mod Same
 pub mod Limits
+pub mod Pitches

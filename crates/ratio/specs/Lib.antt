@@ -1,2 +1,4 @@
 pub mod Products
 pub mod Faults
+pub mod Parts
+pub mod Pitches

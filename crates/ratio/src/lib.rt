@@ -1,4 +1,6 @@
 //! Exact ratios: entry, lowest terms, six exponents, printing, pitch.
 
 pub mod fault;
+pub mod parts;
+pub mod pitch;
 pub mod ratio;
