@@ -1,5 +1,6 @@
 //! Exact ratios: entry, lowest terms, six exponents, printing, pitch.
 
+pub mod equality;
 pub mod fault;
 pub mod parts;
 pub mod pitch;
