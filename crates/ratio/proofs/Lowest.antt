@@ -122,7 +122,7 @@ product-less (p ∷ ps) (k ∷ ks) [] some le = absurd le
 product-less (p ∷ ps) (k ∷ ks) (l ∷ ls) some le =
     mul-le-mul (pow-le-pow-right (some .0) (le .0)) (product-less ps ks ls (some .1) (le .1))
 
-primes-some : All (λ p. 0 < p) primes
+pub primes-some : All (λ p. 0 < p) primes
 primes-some = (omega arith, (omega arith, (omega arith, (omega arith, (omega arith, (omega arith, tt))))))
 
 part-less : (zs ks : List ℕ) (m w : ℕ) → m ≡ product primes zs * w → 0 < w → Each _≤_ ks zs → product primes ks ≤ m

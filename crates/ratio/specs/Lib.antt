@@ -3,3 +3,5 @@ pub mod Faults
 pub mod Entry
 pub mod Factors
 pub mod Printing
+pub mod Parts
+pub mod Pitches

@@ -15,7 +15,7 @@ pub const PRIMES: [u32; 6] = [2, 3, 5, 7, 11, 13];
 ///
 /// It is held as the signed exponents of the primes: 45/32 is -5, 2, 1, 0, 0, 0. Two ratios are equal exactly if their
 /// exponents are.
-#[derive(Clone, Copy, Debug, PartialEq, Eq)]
+#[derive(Clone, Copy, Debug)]
 pub struct Ratio {
     pub(crate) exponents: [i8; 6],
     ghost six: { length exponents ≡ 6 },
