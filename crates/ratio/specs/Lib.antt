@@ -1,2 +1,4 @@
 pub mod Products
 pub mod Faults
+pub mod Words
+pub mod Scanning
