@@ -2,13 +2,14 @@
 use mathlib.Core.Path.{_≡_, refl}
 use mathlib.Core.Bool.{Bool, true, false, cond, _&&_}
 use mathlib.Core.List.{List, [], _∷_, _++_}
-use Prim.Native.Nat.{ℕ, _+_, _*_, _-_, _≤_}
+use Prim.Native.Nat.{ℕ, _+_, _*_, _-_, _<_, _≤_}
 use native.Mathlib.Omega.{arith}
 use borrow.Author.Needs.{needs}
-use lib.ListN.{length}
+use lib.ListN.{length, getD, drop}
 use lib.Dec.{eqb, ltb}
 use Rattle.std.specs.declared.option.Option.{Option}
 use Rattle.std.specs.declared.option.Option.the-variants.{Some, None}
+use Rattle.std.proofs.shelf.Lists.{at-drop-more, at-drop-all}
 use Rattle.ratio.specs.declared.word.Scanner.{Scanner}
 use Rattle.ratio.specs.declared.word.Scanner.the-variants.{Start, Numerator, SlashSeen, Denominator}
 use Rattle.ratio.specs.Words.{Digits, value-on, value, Numeral, RatioWord, PartsRead}
@@ -36,6 +37,13 @@ unless-refused f (Some s) = f s
 abbrev pub run : Scanner → List ℕ → Option (ℕ × ℕ)
 run s [] = finish s
 run s (c ∷ cs) = unless-refused (λ t. run t cs) (step-of s c)
+
+-- the run from a byte of the word on goes by the step at that byte
+pub run-more : (s : Scanner) (w : List ℕ) (i : ℕ) → i < length w → run s (drop i w) ≡ unless-refused (λ t. run t (drop (i + 1) w)) (step-of s (getD w i 0))
+run-more s w i h = at-drop-more (run s) w i 0 h
+
+pub run-ends : (s : Scanner) (w : List ℕ) (i : ℕ) → length w ≤ i → run s (drop i w) ≡ finish s
+run-ends s w i h = at-drop-all (run s) w i h
 
 -- ---- an answer has the form that it asks for
 
