@@ -1,2 +1,3 @@
 pub mod Divides
+pub mod Numerals
 pub mod Scans

@@ -1,26 +1,51 @@
 //! The words that write a ratio in a line.
 
 ghost use mathlib.Core.Path.{_≡_};
-ghost use Rattle.ratio.specs.Scanning.{Sound, step-of, stepped};
-ghost use Rattle.ratio.specs.Words.{PartsRead};
+ghost use Prim.Native.Nat.{_<_};
+ghost use Rattle.ratio.specs.Scanning.{Short, Sound, with-digit, step-of, stepped};
+ghost use Rattle.ratio.specs.Words.{Digit, PartsRead};
 ghost use Rattle.std.specs.Options.{Cases};
 
-/// How far the scan of a ratio word has come, with the numbers read so far and the digits of the last.
+/// The most digits of a number in a word.
+const MOST_DIGITS: u8 = 10;
+
+/// The digits of a number read so far: the number that they write, and how many they are.
+#[derive(Clone, Copy)]
+struct Part {
+    number: u64,
+    digits: u8,
+}
+
+impl Part {
+    /// A part before its first digit.
+    const EMPTY: Part = Part {
+        number: 0,
+        digits: 0,
+    };
+
+    /// The part with one more digit.
+    fn then(self, digit: u8) -> Part
+        requires { ⌜ Short self ⌝ ∗ ⌜ self .digits < 10 ⌝ ∗ ⌜ Digit digit ⌝ }
+        ensures value { λ r. ⌜ r ≡ with-digit self digit ⌝ }
+        ensures short { λ r. ⌜ Short r ⌝ }
+    {
+        Part {
+            number: self.number * 10 + u64::from(digit - b'0'),
+            digits: self.digits + 1,
+        }
+    }
+}
+
+/// How far the scan of a ratio word has come, with what it read so far.
 #[derive(Clone, Copy)]
 enum Scanner {
     Start,
-    Numerator {
-        numerator: u64,
-        digits: u8,
-    },
-    SlashSeen {
-        numerator: u64,
-    },
-    Denominator {
-        numerator: u64,
-        denominator: u64,
-        digits: u8,
-    },
+    /// The digits of the numerator so far.
+    Numerator(Part),
+    /// The numerator.
+    SlashSeen(u64),
+    /// The numerator, and the digits of the denominator so far.
+    Denominator(u64, Part),
 }
 
 impl Scanner {
@@ -31,33 +56,13 @@ impl Scanner {
         ensures sound { λ r. ⌜ Cases r (Unit {0}) (λ _. Sound (now (self .exit))) ⌝ }
     {
         *self = match (*self, byte) {
-            (Scanner::Start, b'0'..=b'9') => Scanner::Numerator {
-                numerator: u64::from(byte - b'0'),
-                digits: 1,
-            },
-            (Scanner::Numerator { numerator, digits }, b'0'..=b'9') if digits < 10 =>
-                Scanner::Numerator {
-                    numerator: numerator * 10 + u64::from(byte - b'0'),
-                    digits: digits + 1,
-                },
-            (Scanner::Numerator { numerator, .. }, b'/') => Scanner::SlashSeen { numerator },
-            (Scanner::SlashSeen { numerator }, b'0'..=b'9') => Scanner::Denominator {
-                numerator,
-                denominator: u64::from(byte - b'0'),
-                digits: 1,
-            },
-            (
-                Scanner::Denominator {
-                    numerator,
-                    denominator,
-                    digits,
-                },
-                b'0'..=b'9',
-            ) if digits < 10 => Scanner::Denominator {
-                numerator,
-                denominator: denominator * 10 + u64::from(byte - b'0'),
-                digits: digits + 1,
-            },
+            (Scanner::Start, b'0'..=b'9') => Scanner::Numerator(Part::EMPTY.then(byte)),
+            (Scanner::Numerator(n), b'0'..=b'9') if n.digits < MOST_DIGITS =>
+                Scanner::Numerator(n.then(byte)),
+            (Scanner::Numerator(n), b'/') => Scanner::SlashSeen(n.number),
+            (Scanner::SlashSeen(n), b'0'..=b'9') => Scanner::Denominator(n, Part::EMPTY.then(byte)),
+            (Scanner::Denominator(n, d), b'0'..=b'9') if d.digits < MOST_DIGITS =>
+                Scanner::Denominator(n, d.then(byte)),
             _ => return None,
         };
         Some(())
@@ -75,11 +80,7 @@ pub fn read_parts(word: &[u8]) -> Option<(u64, u64)>
         scanner.take(*byte)?;
     }
     match scanner {
-        Scanner::Denominator {
-            numerator,
-            denominator,
-            ..
-        } => Some((numerator, denominator)),
+        Scanner::Denominator(n, d) => Some((n, d.number)),
         _ => None,
     }
 }

@@ -12,7 +12,7 @@ loop-byte-again c = search (needs, run-more)
 
 pub returns-in-Denominator : need.returns-in-Denominator
 returns-in-Denominator c =
-    record { form = scan-reads (c .args .word .now) (Some (c .in-Denominator .numerator, c .in-Denominator .denominator)) (search (needs, run-ends)) }
+    record { form = scan-reads (c .args .word .now) (Some (c .in-Denominator .n, c .in-Denominator .d .number)) (search (needs, run-ends)) }
 
 pub returns-in-rest : need.returns-in-rest
 returns-in-rest c =
