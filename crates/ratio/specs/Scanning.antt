@@ -25,11 +25,11 @@ with-digit p c = record { number = p .number * 10 + (c - 48); digits = p .digits
 abbrev pub goes-on : Part → ℕ → Bool
 goes-on p c = is-digit c && ltb (p .digits) 10
 
--- a part has at most ten digits, and its number no more than it has
+-- a part has at most ten digits, and its number is below that power of ten
 abbrev pub Short : Part → Type 0
 Short p = (p .digits ≤ 10) × (p .number < 10 ^ p .digits)
 
--- the part that a scanner is in is short
+-- the part that a scanner is reading is short
 abbrev pub Sound : Scanner → Type 0
 Sound Start = Unit {0}
 Sound (Numerator n) = Short n

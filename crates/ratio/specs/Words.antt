@@ -15,7 +15,7 @@ abbrev pub Digits : List ℕ → Type 0
 Digits [] = Unit {0}
 Digits (c ∷ cs) = Digit c × Digits cs
 
--- the number that digits write behind those that wrote n
+-- the number that digits write after others that write n: each digit adds its worth to ten times what came before
 abbrev pub value-on : ℕ → List ℕ → ℕ
 value-on n [] = n
 value-on n (c ∷ cs) = value-on (n * 10 + (c - 48)) cs
@@ -36,7 +36,7 @@ pub record RatioWord (w a b : List ℕ) : Type 0 where
   pub below : Numeral b
   pub joined : w ≡ a ++ (47 ∷ b)
 
--- what a word is read as: a ratio word as the values of its two numerals, and any other word as nothing
+-- what a word is read as: a ratio word as the numbers that its two numerals write, and any other word as nothing
 abbrev pub PartsRead : List ℕ → Option (ℕ × ℕ) → Type 0
 PartsRead w None = (a b : List ℕ) → RatioWord w a b → ⊥
 PartsRead w (Some p) = (a : List ℕ) × ((b : List ℕ) × (RatioWord w a b × (p ≡ (value a, value b))))

@@ -6,10 +6,10 @@ ghost use Rattle.ratio.specs.Scanning.{Short, Sound, with-digit, step-of, step
 ghost use Rattle.ratio.specs.Words.{Digit, PartsRead};
 ghost use Rattle.std.specs.Options.{Cases};
 
-/// The most digits of a number in a word.
+/// The most digits that a number of a word may have.
 const MOST_DIGITS: u8 = 10;
 
-/// The digits of a number read so far: the number that they write, and how many they are.
+/// The digits of one number as far as they are read: the number that they write, and how many they are.
 #[derive(Clone, Copy)]
 struct Part {
     number: u64,
@@ -49,7 +49,7 @@ enum Scanner {
 }
 
 impl Scanner {
-    /// Moves on by the next byte of the word, or refuses it where no ratio word goes on so.
+    /// Moves on by the next byte of the word. Refuses a byte by which no ratio word goes on.
     fn take(&mut self, byte: u8) -> Option<()>
         requires { ⌜ Sound (now self) ⌝ }
         ensures moved { λ r. ⌜ stepped r (now (self .exit)) ≡ step-of (now (self .entry)) byte ⌝ }
@@ -69,9 +69,10 @@ impl Scanner {
     }
 }
 
-/// The numerator and the denominator that a ratio word writes, as they stand.
+/// The numerator and the denominator that a ratio word writes: 1 to 10 digits, a slash, and 1 to 10 digits. Zeros may
+/// lead, and the two numbers are given as written, not in lowest terms.
 ///
-/// A ratio word is 1 to 10 digits, a slash, and 1 to 10 digits; any other word has no answer.
+/// Refuses every other word.
 pub fn read_parts(word: &[u8]) -> Option<(u64, u64)>
     ensures form { λ r. ⌜ PartsRead (now (word .entry)) r ⌝ }
 {
