@@ -69,10 +69,9 @@ impl Scanner {
     }
 }
 
-/// The numerator and the denominator that a ratio word writes: 1 to 10 digits, a slash, and 1 to 10 digits. Zeros may
-/// lead, and the two numbers are given as written, not in lowest terms.
+/// The numerator and the denominator of a ratio word as it writes them, not in lowest terms.
 ///
-/// Refuses every other word.
+/// A ratio word is 1 to 10 digits, a slash, and 1 to 10 digits; zeros may lead. Refuses every other word.
 pub fn read_parts(word: &[u8]) -> Option<(u64, u64)>
     ensures form { λ r. ⌜ PartsRead (now (word .entry)) r ⌝ }
 {
