@@ -6,3 +6,5 @@ pub mod Same
 pub mod Limits
 pub mod Pitches
 pub mod Terms
+pub mod Numerals
+pub mod Scans

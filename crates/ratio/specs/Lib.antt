@@ -5,3 +5,5 @@ pub mod Factors
 pub mod Printing
 pub mod Parts
 pub mod Pitches
+pub mod Words
+pub mod Scanning

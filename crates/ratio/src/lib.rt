@@ -7,3 +7,4 @@ pub mod parts;
 pub mod pitch;
 pub mod print;
 pub mod ratio;
+pub mod word;
