@@ -8,3 +8,4 @@ pub mod Pitches
 pub mod Terms
 pub mod Numerals
 pub mod Scans
+pub mod Entered

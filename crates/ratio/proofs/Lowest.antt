@@ -11,9 +11,9 @@ use borrow.Author.Differences.{up, down, same-in}
 use Rattle.std.specs.shelf.Lists.{All, Each}
 use Rattle.std.proofs.shelf.Signed.{ints}
 use Rattle.ratio.specs.Products.{product, primes, numerator, denominator}
-use Rattle.ratio.specs.Factors.{Misses, Without, minus}
+use Rattle.ratio.specs.Factors.{Without, Factored, minus}
 use Rattle.ratio.proofs.Divides.{Prime, Distinct, primes-distinct}
-use Rattle.ratio.proofs.Factoring.{misses-one, same-product, plus, length-plus, product-plus}
+use Rattle.ratio.proofs.Factoring.{misses-one, misses-some, same-product, plus, length-plus, product-plus}
 
 without-one : (ps : List ℕ) → Distinct ps → Without ps 1
 without-one [] d = tt
@@ -60,35 +60,37 @@ same-exponents a b la lb e =
     (same-product primes primes-distinct (plus (map up a) (map down b)) (plus (map up b) (map down a))
     (length-plus (map up a) (map down b) 6 ua db) (length-plus (map up b) (map down a) 6 ub da) 1 1 w w s .0)
 
--- ---- the numbers n and d, by their multiplicities and rests
+-- ---- two numbers, by their multiplicities and rests
 
 times-more : (a b u : ℕ) → (a * u) * b ≡ (a * b) * u
 times-more a b u = grind arith
 
-module _ (n d : ℕ) (xs ys : List ℕ) (u v : ℕ) (lx : length xs ≡ 6) (ly : length ys ≡ 6)
-    (n-is : n ≡ product primes xs * u) (d-is : d ≡ product primes ys * v) where
-  crossed : (ks zs : List ℕ) (m w : ℕ) → length ks ≡ 6 → length zs ≡ 6 → m ≡ product primes zs * w → m * product primes ks ≡ product primes (plus zs ks) * w
-  crossed ks zs m w lk lz e =
-      ap (λ k. k * product primes ks) e ∙ (times-more (product primes zs) (product primes ks) w ∙ ap (λ k. k * w) (product-plus primes zs ks lz lk))
+module _ (n d : ℕ) (xs ys : List ℕ) (u v : ℕ) (above : Factored n xs u) (below : Factored d ys v) where
+
+  crossed : (ks zs : List ℕ) (m w : ℕ) → length ks ≡ 6 → Factored m zs w → m * product primes ks ≡ product primes (plus zs ks) * w
+  crossed ks zs m w lk f =
+      ap (λ k. k * product primes ks) (f .parts) ∙ (times-more (product primes zs) (product primes ks) w ∙ ap (λ k. k * w) (product-plus primes zs ks (f .six) lk))
 
   -- only equal rests leave a quotient of the six primes
-  pub rests-same : Without primes u → Without primes v → (e : List ℤ) → length e ≡ 6 → n * denominator e ≡ d * numerator e → u ≡ v
-  rests-same wu wv e le same =
-      let de : length (map down e) ≡ 6 = length-map e down ∙ le in
-      let ue : length (map up e) ≡ 6 = length-map e up ∙ le in
+  pub rests-same : (e : List ℤ) → length e ≡ 6 → n * denominator e ≡ d * numerator e → u ≡ v
+  rests-same e six same =
+      let de : length (map down e) ≡ 6 = length-map e down ∙ six in
+      let ue : length (map up e) ≡ 6 = length-map e up ∙ six in
       same-product primes primes-distinct (plus xs (map down e)) (plus ys (map up e))
-      (length-plus xs (map down e) 6 lx de) (length-plus ys (map up e) 6 ly ue) u v wu wv
-      (sym (crossed (map down e) xs n u de lx n-is) ∙ (same ∙ crossed (map up e) ys d v ue ly d-is)) .1
+        (length-plus xs (map down e) 6 (above .six) de) (length-plus ys (map up e) 6 (below .six) ue) u v (above .left) (below .left)
+        (sym (crossed (map down e) xs n u de above) ∙ (same ∙ crossed (map up e) ys d v ue below)) .1
 
   -- and then the differences of the multiplicities are its exponents
+  pub minus-six : length (minus xs ys) ≡ 6
+  minus-six = length-minus xs ys 6 (above .six) (below .six)
+
   pub quotient-is : u ≡ v → n * denominator (minus xs ys) ≡ d * numerator (minus xs ys)
   quotient-is same =
-      let l = length-minus xs ys 6 lx ly in
-      let dm : length (map down (minus xs ys)) ≡ 6 = length-map (minus xs ys) down ∙ l in
-      let um : length (map up (minus xs ys)) ≡ 6 = length-map (minus xs ys) up ∙ l in
-      let a = crossed (map down (minus xs ys)) xs n u dm lx n-is in
-      let b = crossed (map up (minus xs ys)) ys d v um ly d-is in
-      let c = balanced xs ys (lx ∙ sym ly) in
+      let dm : length (map down (minus xs ys)) ≡ 6 = length-map (minus xs ys) down ∙ minus-six in
+      let um : length (map up (minus xs ys)) ≡ 6 = length-map (minus xs ys) up ∙ minus-six in
+      let a = crossed (map down (minus xs ys)) xs n u dm above in
+      let b = crossed (map up (minus xs ys)) ys d v um below in
+      let c = balanced xs ys (above .six ∙ sym (below .six)) in
       cc
 
 -- ---- cancelling makes the parts no larger
@@ -125,14 +127,16 @@ product-less (p ∷ ps) (k ∷ ks) (l ∷ ls) some le =
 pub primes-some : All (λ p. 0 < p) primes
 primes-some = (omega arith, (omega arith, (omega arith, (omega arith, (omega arith, (omega arith, tt))))))
 
-part-less : (zs ks : List ℕ) (m w : ℕ) → m ≡ product primes zs * w → 0 < w → Each _≤_ ks zs → product primes ks ≤ m
-part-less zs ks m w e some le =
+part-less : (zs ks : List ℕ) (m w : ℕ) → Factored m zs w → Each _≤_ ks zs → product primes ks ≤ m
+part-less zs ks m w f le =
     let a = product-less primes ks zs primes-some le in
-    let b : product primes zs * 1 ≤ product primes zs * w = mul-le-mul-left (product primes zs) some in
-    omega (arith, mul-one (product primes zs))
+    let b : product primes zs * 1 ≤ product primes zs * w = mul-le-mul-left (product primes zs) (misses-some 2 w (f .left .0)) in
+    omega (arith, f .parts, mul-one (product primes zs))
 
-pub numerator-less : (xs ys : List ℕ) (n u : ℕ) → length xs ≡ length ys → n ≡ product primes xs * u → 0 < u → numerator (minus xs ys) ≤ n
-numerator-less xs ys n u l e some = part-less xs (map up (minus xs ys)) n u e some (ups-less xs ys l)
+module _ (n d : ℕ) (xs ys : List ℕ) (u v : ℕ) (above : Factored n xs u) (below : Factored d ys v) where
 
-pub denominator-less : (xs ys : List ℕ) (d v : ℕ) → length xs ≡ length ys → d ≡ product primes ys * v → 0 < v → denominator (minus xs ys) ≤ d
-denominator-less xs ys d v l e some = part-less ys (map down (minus xs ys)) d v e some (downs-less xs ys l)
+  pub numerator-less : numerator (minus xs ys) ≤ n
+  numerator-less = part-less xs (map up (minus xs ys)) n u above (ups-less xs ys (above .six ∙ sym (below .six)))
+
+  pub denominator-less : denominator (minus xs ys) ≤ d
+  denominator-less = part-less ys (map down (minus xs ys)) d v below (downs-less xs ys (above .six ∙ sym (below .six)))

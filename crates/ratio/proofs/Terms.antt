@@ -22,7 +22,7 @@ use Rattle.ratio.proofs.Limits.{limits, Within, ratio-within}
 use Rattle.ratio.proofs.Lowest.{primes-some}
 use Rattle.ratio.proofs.Multiplicities.{product-push}
 
-product-some : (ps ks : List ℕ) → All (λ p. 0 < p) ps → 1 ≤ product ps ks
+pub product-some : (ps ks : List ℕ) → All (λ p. 0 < p) ps → 1 ≤ product ps ks
 product-some [] ks some = omega arith
 product-some (p ∷ ps) [] some = omega arith
 product-some (p ∷ ps) (k ∷ ks) some = one-le-mul (one-le-pow k p (some .0)) (product-some ps ks (some .1))

@@ -4,6 +4,9 @@ ghost use mathlib.Core.Path.{_≡_};
 ghost use Prim.Native.Nat.{ℕ, _*_, _%_, _^_, _<_, _≤_};
 ghost use Rattle.std.specs.shelf.Lists.{All};
 ghost use Rattle.ratio.specs.Entry.{Entered};
+ghost use Rattle.ratio.specs.declared.fault.RatioFault.{RatioFault};
+ghost use Rattle.ratio.specs.declared.ratio.Ratio.{Ratio};
+ghost use Rattle.std.specs.declared.result.Result.{Result};
 ghost use Rattle.ratio.specs.Factors.{Factored, minus};
 use crate::fault::RatioFault;
 use crate::ratio::LARGEST_PART;
@@ -24,6 +27,7 @@ impl Ratio {
     /// after common factors are cancelled: 34/17 is 2/1, and 17/16 is refused.
     pub fn new(numerator: u64, denominator: u64) -> Result<Ratio, RatioFault>
         ensures entered { λ r. ⌜ Entered numerator denominator r ⌝ }
+        ensures only { λ r. ⌜ ((s : Result Ratio RatioFault) → Entered numerator denominator s → s ≡ r) ⌝ }
     {
         if numerator == 0 || denominator == 0 {
             return Err(RatioFault::ZeroPart);
