@@ -30,7 +30,7 @@ pub quotient-once : (n d : ℕ) (a b : List ℤ) → 0 < n → 0 < d → length 
 quotient-once n d a b hn hd la lb p q =
     same-exponents a b la lb
     (eq-of-mul-eq-mul-left (n * d) (mul-pos hn hd) (numerator a * denominator b) (numerator b * denominator a)
-      (crossed n d (numerator a) (denominator a) (numerator b) (denominator b) p q))
+    (crossed n d (numerator a) (denominator a) (numerator b) (denominator b) p q))
 
 fair-zero : {n d : ℕ} → Within n d → (n ≡ 0) ⊎ (d ≡ 0) → ⊥
 fair-zero w z = ⊎-elim (λ h. omega (arith, w .numerator-some)) (λ h. omega (arith, w .denominator-some)) z
@@ -62,11 +62,12 @@ entered-once n d (Err PrimeLeft) (Err PrimeLeft) a b = refl
 
 -- the parts of a ratio, entered, are the ratio
 pub parts-entered : (x : Ratio) → Entered (numerator (x .exponents)) (denominator (x .exponents)) (Ok x)
-parts-entered x =
-    ( record {
-        numerator-some = product-some primes (map up (x .exponents)) primes-some;
-        denominator-some = product-some primes (map down (x .exponents)) primes-some;
-        numerator-small = x .«numerator_fits»;
-        denominator-small = x .«denominator_fits»
-      }
-    , mul-comm (numerator (x .exponents)) (denominator (x .exponents)))
+parts-entered x = (
+  record {
+    numerator-some = product-some primes (map up (x .exponents)) primes-some;
+    denominator-some = product-some primes (map down (x .exponents)) primes-some;
+    numerator-small = x .«numerator_fits»;
+    denominator-small = x .«denominator_fits»;
+  },
+  mul-comm (numerator (x .exponents)) (denominator (x .exponents)),
+)

@@ -9,3 +9,4 @@ pub mod Terms
 pub mod Numerals
 pub mod Scans
 pub mod Entered
+pub mod Coprime

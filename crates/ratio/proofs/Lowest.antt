@@ -66,7 +66,6 @@ times-more : (a b u : ℕ) → (a * u) * b ≡ (a * b) * u
 times-more a b u = grind arith
 
 module _ (n d : ℕ) (xs ys : List ℕ) (u v : ℕ) (above : Factored n xs u) (below : Factored d ys v) where
-
   crossed : (ks zs : List ℕ) (m w : ℕ) → length ks ≡ 6 → Factored m zs w → m * product primes ks ≡ product primes (plus zs ks) * w
   crossed ks zs m w lk f =
       ap (λ k. k * product primes ks) (f .parts) ∙ (times-more (product primes zs) (product primes ks) w ∙ ap (λ k. k * w) (product-plus primes zs ks (f .six) lk))
@@ -77,8 +76,8 @@ module _ (n d : ℕ) (xs ys : List ℕ) (u v : ℕ) (above : Factored n xs u) (b
       let de : length (map down e) ≡ 6 = length-map e down ∙ six in
       let ue : length (map up e) ≡ 6 = length-map e up ∙ six in
       same-product primes primes-distinct (plus xs (map down e)) (plus ys (map up e))
-        (length-plus xs (map down e) 6 (above .six) de) (length-plus ys (map up e) 6 (below .six) ue) u v (above .left) (below .left)
-        (sym (crossed (map down e) xs n u de above) ∙ (same ∙ crossed (map up e) ys d v ue below)) .1
+      (length-plus xs (map down e) 6 (above .six) de) (length-plus ys (map up e) 6 (below .six) ue) u v (above .left) (below .left)
+      (sym (crossed (map down e) xs n u de above) ∙ (same ∙ crossed (map up e) ys d v ue below)) .1
 
   -- and then the differences of the multiplicities are its exponents
   pub minus-six : length (minus xs ys) ≡ 6
@@ -134,7 +133,6 @@ part-less zs ks m w f le =
     omega (arith, f .parts, mul-one (product primes zs))
 
 module _ (n d : ℕ) (xs ys : List ℕ) (u v : ℕ) (above : Factored n xs u) (below : Factored d ys v) where
-
   pub numerator-less : numerator (minus xs ys) ≤ n
   numerator-less = part-less xs (map up (minus xs ys)) n u above (ups-less xs ys (above .six ∙ sym (below .six)))
 

@@ -87,7 +87,7 @@ minus-more xs ys zs i z lx ly lz h e inv =
     let d = minus-push (take i xs) (take i ys) (getD xs i 0) (getD ys i 0) (simp length-take (omega arith)) in
     cc
 
-multiple : (n p q r : ℕ) → n ≡ q * r → r % p ≡ 0 → n % p ≡ 0
+pub multiple : (n p q r : ℕ) → n ≡ q * r → r % p ≡ 0 → n % p ≡ 0
 multiple n p q r e z =
     let d : n ≡ p * (q * (r / p)) = e ∙ (ap (λ k. q * k) (divided r p z) ∙ mul-left-comm q p (r / p)) in
     ap (λ k. k % p) d ∙ mul-mod-right p (q * (r / p))
@@ -154,5 +154,4 @@ apart-all n place ks rest h a =
       six = six;
       parts = cc;
       left = subst (λ ps. Without ps rest) all-primes (a .left);
-      few = a .few;
     }

@@ -35,7 +35,6 @@ front-less (suc i) (p ∷ ps) [] some = omega arith
 front-less (suc i) (p ∷ ps) (k ∷ ks) some = mul-le-mul-left (p ^ k) (front-less i ps ks (some .1))
 
 module _ (es : List ℤ) (six : length es ≡ 6) (i : ℕ) (h : i < 6) where
-
   pub front-more : product (take (i + 1) primes) (take (i + 1) (map up es)) ≡ product (take i primes) (take i (map up es)) * getD primes i 0 ^ up (getD es i (pos 0))
   front-more =
       let l : length (map up es) ≡ 6 = length-map es up ∙ six in
@@ -47,7 +46,7 @@ module _ (es : List ℤ) (six : length es ≡ 6) (i : ℕ) (h : i < 6) where
       cc
 
   pub power-fits : (n : ℕ) → numerator es ≤ n → (getD primes i 0 ^ up (getD es i (pos 0)) ≤ n)
-    × (product (take i primes) (take i (map up es)) * getD primes i 0 ^ up (getD es i (pos 0)) ≤ n)
+      × (product (take i primes) (take i (map up es)) * getD primes i 0 ^ up (getD es i (pos 0)) ≤ n)
   power-fits n le =
       let p : ℕ = getD primes i 0 ^ up (getD es i (pos 0)) in
       let f : ℕ = product (take i primes) (take i (map up es)) in

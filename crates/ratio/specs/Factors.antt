@@ -1,7 +1,7 @@
 -- A number taken apart into powers of the six primes and a rest. Only private functions cite this.
 use mathlib.Core.Path.{_≡_}
 use mathlib.Core.List.{List, [], _∷_}
-use Prim.Native.Nat.{ℕ, _*_, _%_, _<_}
+use Prim.Native.Nat.{ℕ, _*_, _%_}
 use lib.IntN.{ℤ, pos, _-ℤ_}
 use lib.ListN.{length}
 use Rattle.std.specs.shelf.Lists.{All}
@@ -20,7 +20,6 @@ pub record Factored (n : ℕ) (ks : List ℕ) (rest : ℕ) : Type 0 where
   pub six : length ks ≡ 6
   pub parts : n ≡ product primes ks * rest
   pub left : Without primes rest
-  pub few : All (λ k. k < 32) ks
 
 -- the differences of two lists of multiplicities
 abbrev pub minus : List ℕ → List ℕ → List ℤ

@@ -1,4 +1,5 @@
 -- The whole numbers that powers of the six primes make.
+use mathlib.Core.Path.{_≡_}
 use mathlib.Core.List.{List, [], _∷_, map}
 use Prim.Native.Nat.{ℕ, _*_, _^_}
 use lib.IntN.{ℤ}
@@ -21,3 +22,7 @@ numerator es = product primes (map up es)
 -- its denominator: the primes with a negative one (`down e` is -e, or 0 above zero)
 abbrev pub denominator : List ℤ → ℕ
 denominator es = product primes (map down es)
+
+-- n and d have no common factor but 1
+abbrev pub LowestTerms : ℕ → ℕ → Type 0
+LowestTerms n d = (k x y : ℕ) → n ≡ k * x → d ≡ k * y → k ≡ 1

@@ -51,6 +51,7 @@ impl Factors {
     fn of(number: u64) -> Factors
         requires { ⌜ (0 < number) × (number ≤ 4294967295) ⌝ }
         ensures factored { λ r. ⌜ Factored number (r .multiplicities) (r .rest) ⌝ }
+        ensures few { λ r. ⌜ All (λ k. k < 32) (r .multiplicities) ⌝ }
     {
         let mut multiplicities = [0; 6];
         let mut rest = number;

@@ -5,7 +5,7 @@ ghost use mathlib.Core.Path.{_≡_};
 ghost use lib.IntN.{negℤ};
 ghost use Rattle.std.specs.declared.option.Option.the-variants.{Some};
 ghost use Rattle.ratio.specs.Printing.{ratio-text};
-ghost use Rattle.ratio.specs.Products.{numerator, denominator};
+ghost use Rattle.ratio.specs.Products.{numerator, denominator, LowestTerms};
 use crate::ratio::PRIMES;
 use crate::ratio::Ratio;
 use std::fmt;
@@ -27,7 +27,8 @@ impl Ratio {
 
     /// The denominator in lowest terms.
     pub fn denominator(&self) -> u32
-        ensures { λ r. ⌜ r ≡ denominator (now (self .entry) .exponents) ⌝ }
+        ensures value { λ r. ⌜ r ≡ denominator (now (self .entry) .exponents) ⌝ }
+        ensures lowest { λ r. ⌜ LowestTerms (numerator (now (self .entry) .exponents)) r ⌝ }
     {
         self.recip().numerator()
     }

@@ -29,4 +29,7 @@ loop-place-again c =
     (c .divided-out-times .ensures .few)
 
 pub returns : need.returns
-returns c = record { factored = apart-all (c .args .number) (c .loop-place .place) (c .loop-place .multiplicities) (c .loop-place .rest) (c .loop-place-test .left) (c .loop-place .inv) }
+returns c = record {
+  factored = apart-all (c .args .number) (c .loop-place .place) (c .loop-place .multiplicities) (c .loop-place .rest) (c .loop-place-test .left) (c .loop-place .inv);
+  few = c .loop-place .inv .few;
+}

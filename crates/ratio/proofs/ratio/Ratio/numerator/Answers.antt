@@ -32,7 +32,7 @@ mul-product c =
     let f = power-fits (r .exponents) (r .six) i (c .loop-place-test .taken) 4294967295 (r .«numerator_fits») .1 in
     let power = c .pow-product .ensures ∙ ap (λ k. getD primes i 0 ^ k) is in
     let whole : c .loop-place .product * c .pow-product .result ≤ 4294967295 =
-        subst (λ n. n ≤ 4294967295) (ap (λ n. n * getD primes i 0 ^ up (getD (r .exponents) i (pos 0))) (sym (c .loop-place .inv)) ∙ ap (λ n. c .loop-place .product * n) (sym power)) f in
+    subst (λ n. n ≤ 4294967295) (ap (λ n. n * getD primes i 0 ^ up (getD (r .exponents) i (pos 0))) (sym (c .loop-place .inv)) ∙ ap (λ n. c .loop-place .product * n) (sym power)) f in
     search needs
 
 pub loop-place-again : need.loop-place-again
@@ -43,12 +43,12 @@ loop-place-again c =
     let more = front-more (r .exponents) (r .six) i (c .loop-place-test .taken) in
     let inv = c .loop-place .inv in
     elim (c .if-exponent-gt0 .came) [
-      then-exponent-gt0 w ↦
-        let is = up-positive (getD (r .exponents) i (pos 0)) fits (w .if-exponent-gt0 .taken) in
-        let power = w .pow-product .ensures ∙ ap (λ k. getD primes i 0 ^ k) is in
-        cc (w .product-is, power, more, inv)
-    | else-exponent-gt0 w ↦
-        let is = up-negative (getD (r .exponents) i (pos 0)) fits (w .if-exponent-gt0 .left) in
-        let power = ap (λ k. getD primes i 0 ^ k) is ∙ pow-zero (getD primes i 0) in
-        cc (w .product-is, power, more, inv, mul-one (c .loop-place .product))
+      | then-exponent-gt0 w ↦
+          let is = up-positive (getD (r .exponents) i (pos 0)) fits (w .if-exponent-gt0 .taken) in
+          let power = w .pow-product .ensures ∙ ap (λ k. getD primes i 0 ^ k) is in
+          cc (w .product-is, power, more, inv)
+      | else-exponent-gt0 w ↦
+          let is = up-negative (getD (r .exponents) i (pos 0)) fits (w .if-exponent-gt0 .left) in
+          let power = ap (λ k. getD primes i 0 ^ k) is ∙ pow-zero (getD primes i 0) in
+          cc (w .product-is, power, more, inv, mul-one (c .loop-place .product))
     ]

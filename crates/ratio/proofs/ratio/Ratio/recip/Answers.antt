@@ -30,10 +30,13 @@ loop-place-again c =
 pub ghost-result : need.ghost-result
 ghost-result c =
     let r = c .args .self .now in
-    let is = sym (all-turned (c .loop-place .place) (c .loop-place .exponents) (r .exponents) (c .loop-place-test .left) (c .loop-place .inv .0) (r .six) (c .loop-place .inv .1)) in
-    ( c .loop-place .inv .0
-    , ( subst (λ es. numerator es ≤ 4294967295) is (subst (λ n. n ≤ 4294967295) (sym (numerator-neg (r .exponents))) (r .«denominator_fits»))
-      , ( subst (λ es. denominator es ≤ 4294967295) is (subst (λ n. n ≤ 4294967295) (sym (denominator-neg (r .exponents))) (r .«numerator_fits»)), tt)))
+    let is = sym (all-turned (c .loop-place .place) (c .loop-place .exponents) (r .exponents) (c .loop-place-test .left) (c .loop-place .inv .0) (r .six) (c .loop-place .inv .1)) in (
+      c .loop-place .inv .0,
+      (
+        subst (λ es. numerator es ≤ 4294967295) is (subst (λ n. n ≤ 4294967295) (sym (numerator-neg (r .exponents))) (r .«denominator_fits»)),
+        (subst (λ es. denominator es ≤ 4294967295) is (subst (λ n. n ≤ 4294967295) (sym (denominator-neg (r .exponents))) (r .«numerator_fits»)), tt),
+      ),
+    )
 
 pub returns : need.returns
 returns c =
