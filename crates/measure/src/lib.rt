@@ -1,0 +1,5 @@
+//! Distances between ratios: what a measure promises, and the measures of the bench.
+
+pub mod fault;
+pub mod measure;
+pub mod weighted;
