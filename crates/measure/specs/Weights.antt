@@ -9,6 +9,17 @@ use lib.ListN.{length, getD}
 abbrev pub Allowed : List ℕ → Type 0
 Allowed ws = (k : ℕ) → k < length ws → (1 ≤ getD ws k 0) × (getD ws k 0 ≤ 1000000)
 
+-- the relation holds between the two numbers at each place, and there are as many of the one as of the other
+abbrev pub AtEach : (ℕ → ℕ → Type 0) → List ℕ → List ℕ → Type 0
+AtEach R [] [] = Unit {0}
+AtEach R [] (w ∷ ws) = ⊥
+AtEach R (p ∷ ps) [] = ⊥
+AtEach R (p ∷ ps) (w ∷ ws) = R p w × AtEach R ps ws
+
+-- the weights of Barlow's indigestibility, scaled to whole numbers
+abbrev pub barlow-weights : List ℕ
+barlow-weights = 30030 ∷ (80080 ∷ (192192 ∷ (308880 ∷ (546000 ∷ (665280 ∷ [])))))
+
 -- how far apart two whole numbers are
 abbrev pub apart : ℤ → ℤ → ℕ
 apart x y = natAbs (x -ℤ y)

@@ -1,10 +1,20 @@
 //! The measure by weights of the primes.
 
 ghost use mathlib.Core.Path.{_≡_};
+ghost use mathlib.Core.List.{map};
+ghost use Prim.Native.Nat.{_-_, _*_, _^_};
 ghost use lib.ListN.{length};
-ghost use Rattle.measure.specs.Weights.{Allowed, weighted};
+ghost use Rattle.std.specs.Orderings.{Decides};
+ghost use Rattle.std.specs.Results.{isOk};
+ghost use Rattle.std.specs.Vec.{made};
+ghost use Rattle.ratio.specs.Products.{primes};
+ghost use Rattle.measure.specs.Weights.{Allowed, AtEach, barlow-weights, weighted};
+use crate::fault::WeightFault;
 use crate::measure::Measure;
 use ratio::ratio::Ratio;
+
+/// The largest weight.
+const HEAVIEST: u32 = 1_000_000;
 
 /// A weight for each of the six primes, from 1 to 1,000,000.
 ///
@@ -14,6 +24,42 @@ pub struct WeightedPrimes {
     pub(crate) weights: [u32; 6],
     ghost six: { length weights ≡ 6 },
     ghost allowed: { Allowed weights },
+}
+
+impl WeightedPrimes {
+    /// The measure by these weights of 2, 3, 5, 7, 11 and 13.
+    ///
+    /// It refuses weights of which one is 0 or over 1,000,000.
+    pub fn new(weights: [u32; 6]) -> Result<WeightedPrimes, WeightFault>
+        ensures held { λ r. ⌜ made r (λ m. m .weights ≡ weights) ⌝ }
+        ensures accepted { λ r. ⌜ Decides (isOk r) (Allowed weights) ⌝ }
+    {
+        for weight in weights {
+            if weight == 0 || weight > HEAVIEST {
+                return Err(WeightFault::OutOfLimits);
+            }
+        }
+        Ok(WeightedPrimes { weights })
+    }
+
+    /// Barlow's weights: for the prime p, 60,060 times (p - 1)²/p.
+    pub fn barlow() -> WeightedPrimes
+        ensures held { λ r. ⌜ r .weights ≡ barlow-weights ⌝ }
+        ensures indigestible { λ r. ⌜ AtEach (λ p w. w * p ≡ 60060 * (p - 1) ^ 2) primes (r .weights) ⌝ }
+    {
+        WeightedPrimes {
+            weights: [30_030, 80_080, 192_192, 308_880, 546_000, 665_280],
+        }
+    }
+
+    /// Euler's weights: for the prime p, p - 1.
+    pub fn euler() -> WeightedPrimes
+        ensures { λ r. ⌜ r .weights ≡ map (λ p. p - 1) primes ⌝ }
+    {
+        WeightedPrimes {
+            weights: [1, 2, 4, 6, 10, 12],
+        }
+    }
 }
 
 pub impl Measure for WeightedPrimes as WeightedPrimesMeasure {
