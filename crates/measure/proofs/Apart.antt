@@ -4,7 +4,7 @@ use Prim.Native.Nat.{ℕ, _+_, _≤_}
 use native.Mathlib.Omega.{arith}
 use lib.IntN.{ℤ, natAbs, _-ℤ_}
 use Rattle.std.proofs.shelf.Signed.{ints}
-use Rattle.measure.specs.Weights.{apart}
+use Rattle.measure.specs.Apart.{apart}
 
 pub apart-zero : (x : ℤ) → apart x x ≡ 0
 apart-zero x = omega (arith, ints)

@@ -11,9 +11,11 @@ use Rattle.std.specs.shelf.Lists.{All}
 use Rattle.std.proofs.shelf.Elements.{all-from-getD}
 use Rattle.std.proofs.shelf.Signed.{toZ-ofZ}
 use Rattle.ratio.specs.declared.ratio.Ratio.{Ratio}
-use Rattle.ratio.proofs.Limits.{limits, ratio-within}
+use Rattle.ratio.specs.Limits.{limits}
+use Rattle.ratio.proofs.Limits.{ratio-within}
 use Rattle.ratio.proofs.Same.{same-ratio}
-use Rattle.measure.specs.Weights.{apart, weighted}
+use Rattle.measure.specs.Apart.{apart}
+use Rattle.measure.specs.Weights.{weighted}
 use Rattle.measure.specs.declared.weighted.WeightedPrimes.{WeightedPrimes}
 use Rattle.measure.proofs.Sums.{weighted-within, weighted-only-zero, weighted-next}
 

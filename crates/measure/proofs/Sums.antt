@@ -8,8 +8,9 @@ use native.Mathlib.Omega.{arith}
 use lib.IntN.{ℤ, pos}
 use lib.ListN.{length, getD, take}
 use Rattle.std.specs.shelf.Lists.{All}
-use Rattle.ratio.proofs.Limits.{Within}
-use Rattle.measure.specs.Weights.{apart, weighted}
+use Rattle.ratio.specs.Limits.{Within}
+use Rattle.measure.specs.Apart.{apart}
+use Rattle.measure.specs.Weights.{weighted}
 use Rattle.measure.proofs.Apart.{apart-zero, apart-both, apart-triangle, apart-bounded, apart-only-zero}
 
 pub weighted-zero : (ws : List ℕ) (xs : List ℤ) → weighted ws xs xs ≡ 0

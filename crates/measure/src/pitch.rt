@@ -1,7 +1,7 @@
 //! The measure by pitch.
 
 ghost use Rattle.ratio.specs.Pitches.{ratio-pitch};
-ghost use Rattle.measure.specs.Weights.{apart};
+ghost use Rattle.measure.specs.Apart.{apart};
 use crate::measure::Measure;
 use ratio::ratio::Ratio;
 

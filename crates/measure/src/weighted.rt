@@ -2,13 +2,13 @@
 
 ghost use mathlib.Core.Path.{_≡_};
 ghost use mathlib.Core.List.{map};
-ghost use Prim.Native.Nat.{_-_, _*_, _^_};
+ghost use Prim.Native.Nat.{_-_};
 ghost use lib.ListN.{length};
 ghost use Rattle.std.specs.Orderings.{Decides};
 ghost use Rattle.std.specs.Results.{isOk};
 ghost use Rattle.std.specs.Vec.{made};
 ghost use Rattle.ratio.specs.Products.{primes};
-ghost use Rattle.measure.specs.Weights.{Allowed, AtEach, barlow-weights, weighted};
+ghost use Rattle.measure.specs.Weights.{Allowed, AtEach, ByBarlow, barlow-weights, weighted};
 use crate::fault::WeightFault;
 use crate::measure::Measure;
 use ratio::ratio::Ratio;
@@ -45,7 +45,7 @@ impl WeightedPrimes {
     /// Barlow's weights: for the prime p, 60,060 times (p - 1)²/p.
     pub fn barlow() -> WeightedPrimes
         ensures held { λ r. ⌜ r .weights ≡ barlow-weights ⌝ }
-        ensures indigestible { λ r. ⌜ AtEach (λ p w. w * p ≡ 60060 * (p - 1) ^ 2) primes (r .weights) ⌝ }
+        ensures rule { λ r. ⌜ AtEach ByBarlow primes (r .weights) ⌝ }
     {
         WeightedPrimes {
             weights: [30_030, 80_080, 192_192, 308_880, 546_000, 665_280],

@@ -1,4 +1,5 @@
 pub mod Products
 pub mod Faults
+pub mod Limits
 pub mod Parts
 pub mod Pitches
