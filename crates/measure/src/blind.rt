@@ -15,3 +15,22 @@ pub impl<M: Measure> Measure for OctaveBlind<M> as OctaveBlindMeasure {
         self.0.distance(&a.without_octaves(), &b.without_octaves())
     }
 }
+
+#[cfg(test)]
+mod tests {
+    use super::*;
+    use crate::pitch::PitchGap;
+    use crate::pitch::PitchGapMeasure;
+    use crate::weighted::WeightedPrimes;
+    use crate::weighted::WeightedPrimesMeasure;
+    use std::test::*;
+
+    #[test]
+    fn blind_over_blind() -> Result<(), Fail> {
+        let unison = Ratio::unison();
+        let weighted = OctaveBlind(OctaveBlind(WeightedPrimes::barlow()));
+        check_eq(weighted.disharmonicity(&unison), 0)?;
+        let pitched = OctaveBlind(OctaveBlind(PitchGap));
+        check_eq(pitched.distance(&unison, &unison), 0)
+    }
+}
