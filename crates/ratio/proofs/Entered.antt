@@ -14,7 +14,7 @@ use Rattle.ratio.specs.declared.ratio.Ratio.{Ratio}
 use Rattle.ratio.specs.declared.fault.RatioFault.{RatioFault}
 use Rattle.ratio.specs.declared.fault.RatioFault.the-variants.{ZeroPart, PartTooLarge, PrimeLeft}
 use Rattle.ratio.specs.Products.{primes, numerator, denominator}
-use Rattle.ratio.specs.Entry.{Within, Quotient, Entered}
+use Rattle.ratio.specs.Entry.{PartsFit, Quotient, Entered}
 use Rattle.ratio.proofs.Lowest.{same-exponents, primes-some}
 use Rattle.ratio.proofs.Same.{same-ratio}
 use Rattle.ratio.proofs.Terms.{product-some}
@@ -32,10 +32,10 @@ quotient-once n d a b hn hd la lb p q =
     (eq-of-mul-eq-mul-left (n * d) (mul-pos hn hd) (numerator a * denominator b) (numerator b * denominator a)
     (crossed n d (numerator a) (denominator a) (numerator b) (denominator b) p q))
 
-fair-zero : {n d : ℕ} → Within n d → (n ≡ 0) ⊎ (d ≡ 0) → ⊥
+fair-zero : {n d : ℕ} → PartsFit n d → (n ≡ 0) ⊎ (d ≡ 0) → ⊥
 fair-zero w z = ⊎-elim (λ h. omega (arith, w .numerator-some)) (λ h. omega (arith, w .denominator-some)) z
 
-fair-large : {n d : ℕ} → Within n d → (0 < n) × (0 < d) × ((4294967295 < n) ⊎ (4294967295 < d)) → ⊥
+fair-large : {n d : ℕ} → PartsFit n d → (0 < n) × (0 < d) × ((4294967295 < n) ⊎ (4294967295 < d)) → ⊥
 fair-large w z = ⊎-elim (λ h. omega (arith, w .numerator-small)) (λ h. omega (arith, w .denominator-small)) (z .2)
 
 zero-large : {n d : ℕ} → (n ≡ 0) ⊎ (d ≡ 0) → (0 < n) × (0 < d) × ((4294967295 < n) ⊎ (4294967295 < d)) → ⊥

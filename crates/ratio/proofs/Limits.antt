@@ -10,18 +10,9 @@ use lib.Dec.{ltb}
 use lib.IntN.{ℤ, pos, negsuc, natAbs}
 use borrow.Author.Differences.{up, down, abs-is}
 use Rattle.std.proofs.shelf.Tests.{and-parts, ltb-true, cases-lt, false≢true}
+use Rattle.ratio.specs.Limits.{limits, Within}
 use Rattle.ratio.specs.Products.{primes, product}
 use Rattle.ratio.specs.declared.ratio.Ratio.{Ratio}
-
--- the largest exponent of each prime
-abbrev pub limits : List ℕ
-limits = 31 ∷ (20 ∷ (13 ∷ (11 ∷ (9 ∷ (8 ∷ [])))))
-
--- each exponent is at most its limit, above zero and below it
-abbrev pub Within : List ℕ → List ℤ → Type 0
-Within [] es = Unit {0}
-Within (l ∷ ls) [] = Unit {0}
-Within (l ∷ ls) (e ∷ es) = (natAbs e ≤ l) × Within ls es
 
 -- each factor has its limit, and its next power after that limit is above n
 abbrev limited : ℕ → List ℕ → List ℕ → Bool

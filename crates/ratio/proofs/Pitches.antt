@@ -11,9 +11,10 @@ use borrow.Author.Differences.{abs-is, neg-is}
 use lib.IntN.{ℤ, pos, negsuc, natAbs, negℤ, _+ℤ_, _*ℤ_, +ℤ-comm, +ℤ-assoc}
 use lib.ListN.{length, getD, take}
 use Rattle.std.proofs.shelf.Signed.{ints, toZ-ofZ}
+use Rattle.ratio.specs.Limits.{limits, Within}
 use Rattle.ratio.specs.Pitches.{prime-pitches, sum-of-pitches, ratio-pitch}
 use Rattle.ratio.specs.declared.ratio.Ratio.{Ratio}
-use Rattle.ratio.proofs.Limits.{limits, Within, ratio-within}
+use Rattle.ratio.proofs.Limits.{ratio-within}
 
 -- the same sum with each exponent at its limit
 abbrev largest : List ℤ → List ℕ → ℕ

@@ -18,7 +18,8 @@ use Rattle.std.proofs.shelf.Elements.{all-take, all-getD}
 use Rattle.std.proofs.shelf.Lists.{take-more, take-all, length-take-le, getD-map}
 use Rattle.ratio.specs.Products.{product, primes, numerator, denominator}
 use Rattle.ratio.specs.declared.ratio.Ratio.{Ratio}
-use Rattle.ratio.proofs.Limits.{limits, Within, ratio-within}
+use Rattle.ratio.specs.Limits.{limits, Within}
+use Rattle.ratio.proofs.Limits.{ratio-within}
 use Rattle.ratio.proofs.Lowest.{primes-some}
 use Rattle.ratio.proofs.Multiplicities.{product-push}
 

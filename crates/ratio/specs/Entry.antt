@@ -17,7 +17,7 @@ abbrev pub Quotient : ℕ → ℕ → List ℤ → Type 0
 Quotient n d e = n * denominator e ≡ d * numerator e
 
 -- neither part is 0, and neither is over the limit
-pub record Within (n d : ℕ) : Type 0 where
+pub record PartsFit (n d : ℕ) : Type 0 where
   pub numerator-some : 0 < n
   pub denominator-some : 0 < d
   pub numerator-small : n ≤ 4294967295
@@ -29,7 +29,7 @@ HoldsOther n d = (e : List ℤ) → length e ≡ 6 → Quotient n d e → ⊥
 
 -- the answer to the numbers n and d: the ratio that equals n/d, or the first fault that holds
 abbrev pub Entered : ℕ → ℕ → Result Ratio RatioFault → Type 0
-Entered n d (Ok r) = Within n d × Quotient n d (r .exponents)
+Entered n d (Ok r) = PartsFit n d × Quotient n d (r .exponents)
 Entered n d (Err ZeroPart) = (n ≡ 0) ⊎ (d ≡ 0)
 Entered n d (Err PartTooLarge) = (0 < n) × (0 < d) × ((4294967295 < n) ⊎ (4294967295 < d))
-Entered n d (Err PrimeLeft) = Within n d × HoldsOther n d
+Entered n d (Err PrimeLeft) = PartsFit n d × HoldsOther n d

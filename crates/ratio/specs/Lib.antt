@@ -3,6 +3,7 @@ pub mod Faults
 pub mod Entry
 pub mod Factors
 pub mod Printing
+pub mod Limits
 pub mod Parts
 pub mod Pitches
 pub mod Words

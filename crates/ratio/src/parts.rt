@@ -1,6 +1,7 @@
 //! The unison, the exponents of a ratio, and a ratio without its octaves.
 
 ghost use mathlib.Core.Path.{_≡_};
+ghost use Rattle.ratio.specs.Limits.{limits, Within};
 ghost use Rattle.ratio.specs.Parts.{unison, octaveless};
 use crate::ratio::Ratio;
 
@@ -12,9 +13,11 @@ impl Ratio {
         Ratio { exponents: [0; 6] }
     }
 
-    /// The exponents of 2, 3, 5, 7, 11 and 13: positive in the numerator, negative in the denominator.
+    /// The exponents of 2, 3, 5, 7, 11 and 13: positive in the numerator, negative in the denominator, and at most 31, 20,
+    /// 13, 11, 9 and 8 either way.
     pub fn exponents(&self) -> [i8; 6]
-        ensures { λ r. ⌜ r ≡ now (self .entry) .exponents ⌝ }
+        ensures held { λ r. ⌜ r ≡ now (self .entry) .exponents ⌝ }
+        ensures limited { λ r. ⌜ Within limits r ⌝ }
     {
         self.exponents
     }

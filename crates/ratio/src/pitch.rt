@@ -27,3 +27,22 @@ impl Ratio {
         total
     }
 }
+
+#[cfg(test)]
+mod tests {
+    use super::*;
+    use std::test::*;
+
+    #[test]
+    fn pitches() -> Result<(), Fail> {
+        let fifth = Ratio {
+            exponents: [-1, 1, 0, 0, 0, 0],
+        };
+        check_eq(fifth.pitch(), 701_955)?;
+        check_eq(fifth.without_octaves().pitch(), 1_901_955)?;
+        let third_down = Ratio {
+            exponents: [2, 0, -1, 0, 0, 0],
+        };
+        check_eq(third_down.pitch(), -386_314)
+    }
+}

@@ -4,21 +4,21 @@ use Prim.Native.Nat.{ℕ, _<_, _≤_}
 use lib.ListN.{length}
 use Rattle.std.specs.declared.result.Result.the-variants.{Err}
 use Rattle.ratio.specs.Products.{numerator, denominator}
-use Rattle.ratio.specs.Entry.{Within, Quotient, Entered}
+use Rattle.ratio.specs.Entry.{PartsFit, Quotient, Entered}
 use Rattle.ratio.specs.declared.fault.RatioFault.the-variants.{PrimeLeft}
 use Rattle.ratio.proofs.Entered.{entered-once}
 use Rattle.ratio.proofs.Lowest.{minus-six, rests-same, quotient-is, numerator-less, denominator-less}
 use Rattle.ratio.proofs.ratio.Ratio.new.Needs as need
 
-within : {n d : ℕ} → 0 < n → 0 < d → n ≤ 4294967295 → d ≤ 4294967295 → Within n d
-within a b p q = record { numerator-some = a; denominator-some = b; numerator-small = p; denominator-small = q }
+parts-fit : {n d : ℕ} → 0 < n → 0 < d → n ≤ 4294967295 → d ≤ 4294967295 → PartsFit n d
+parts-fit a b p q = record { numerator-some = a; denominator-some = b; numerator-small = p; denominator-small = q }
 
 pub returns-then-above-below : need.returns-then-above-below
 returns-then-above-below c =
     let n = c .args .numerator in
     let d = c .args .denominator in
     let left : Entered n d (Err PrimeLeft) = (
-      within (omega arith) (omega arith) (omega arith) (omega arith),
+      parts-fit (omega arith) (omega arith) (omega arith) (omega arith),
       λ e six q. c .if-above-below .taken (rests-same n d _ _ _ _ (c .of-above .ensures .factored) (c .of-below .ensures .factored) e six q),
     ) in
     record { entered = left; only = λ s h. entered-once n d s (Err PrimeLeft) h left }
@@ -38,6 +38,6 @@ pub returns : need.returns
 returns c =
     let n = c .args .numerator in
     let d = c .args .denominator in
-    let fair : Within n d = within (omega arith) (omega arith) (omega arith) (omega arith) in
+    let fair : PartsFit n d = parts-fit (omega arith) (omega arith) (omega arith) (omega arith) in
     let quotient = subst (Quotient n d) (sym (c .differences .ensures)) (quotient-is n d _ _ _ _ (c .of-above .ensures .factored) (c .of-below .ensures .factored) (c .if-above-below .left)) in
     record { entered = (fair, quotient); only = λ s h. entered-once n d s _ h (fair, quotient) }
