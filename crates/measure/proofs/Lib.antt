@@ -1,3 +1,4 @@
 pub mod Apart
 pub mod Sums
 pub mod Distances
+pub mod Harmonic

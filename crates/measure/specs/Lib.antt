@@ -1,3 +1,4 @@
 pub mod Apart
 pub mod Weights
 pub mod Faults
+pub mod Harmonic
