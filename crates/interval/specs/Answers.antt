@@ -1,0 +1,28 @@
+-- What is answered to a line, and to the lines of an input.
+use mathlib.Core.Path.{_≡_}
+use mathlib.Core.List.{List, [], _∷_, _++_}
+use Prim.Native.Nat.{ℕ}
+use Rattle.std.specs.declared.result.Result.{Result}
+use Rattle.std.specs.declared.result.Result.the-variants.{Ok, Err}
+use Rattle.refusal.specs.Texts.{refusal-line}
+use Rattle.ratio.specs.declared.ratio.Ratio.{Ratio}
+use Rattle.interval.specs.declared.fault.LineFault.{LineFault}
+use Rattle.interval.specs.Faults.{line-refusal}
+use Rattle.interval.specs.Naming.{Named}
+use Rattle.interval.specs.Texts.{interval-text}
+
+-- the text of an answer: what the ratio is worth, or the refusal
+abbrev pub answer-text : Result Ratio LineFault → List ℕ
+answer-text (Ok ratio) = interval-text ratio
+answer-text (Err fault) = refusal-line (line-refusal fault)
+
+-- `text` is the answer to the line
+pub record Answered (line text : List ℕ) : Type 0 where
+  pub named : Result Ratio LineFault
+  pub names : Named line named
+  pub is : text ≡ answer-text named
+
+-- `text` is the answers to the lines in their order, each ended by byte 10
+abbrev pub AllAnswered : List (List ℕ) → List ℕ → Type 0
+AllAnswered [] text = text ≡ []
+AllAnswered (line ∷ lines) text = (first : List ℕ) × ((rest : List ℕ) × Answered line first × AllAnswered lines rest × (text ≡ first ++ (10 ∷ rest)))

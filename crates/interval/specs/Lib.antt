@@ -1,0 +1,4 @@
+pub mod Faults
+pub mod Naming
+pub mod Texts
+pub mod Answers
