@@ -2,7 +2,7 @@
 use mathlib.Core.Path.{_≡_, refl, sym, ap, _∙_}
 use mathlib.Core.List.{List, [], _∷_, map}
 use Prim.Native.Nat.{ℕ, zero, suc, _+_, _*_, _<_, _≤_}
-use native.Mathlib.Nat.{mul-le-mul-right}
+use native.Mathlib.Nat.{mul-le-mul-left}
 use native.Mathlib.Numerals.{add-one}
 use native.Mathlib.Omega.{arith}
 use mir.Syntax.{w8, w32}
@@ -20,15 +20,15 @@ use Rattle.ratio.proofs.Limits.{ratio-within}
 abbrev largest : List ℤ → List ℕ → ℕ
 largest [] ls = 0
 largest (p ∷ ps) [] = 0
-largest (p ∷ ps) (l ∷ ls) = l * natAbs p + largest ps ls
+largest (p ∷ ps) (l ∷ ls) = natAbs p * l + largest ps ls
 
 sum-suc : (k : ℕ) (ps es : List ℤ) → k < length ps → k < length es
-    → sum-of-pitches (take (suc k) ps) es ≡ sum-of-pitches (take k ps) es +ℤ (getD es k (pos 0) *ℤ getD ps k (pos 0))
+    → sum-of-pitches (take (suc k) ps) es ≡ sum-of-pitches (take k ps) es +ℤ (getD ps k (pos 0) *ℤ getD es k (pos 0))
 sum-suc k [] es h i = absurd (omega arith)
 sum-suc k (p ∷ ps) [] h i = absurd (omega arith)
-sum-suc zero (p ∷ ps) (e ∷ es) h i = +ℤ-comm (e *ℤ p) (pos 0)
+sum-suc zero (p ∷ ps) (e ∷ es) h i = +ℤ-comm (p *ℤ e) (pos 0)
 sum-suc (suc k) (p ∷ ps) (e ∷ es) h i =
-    ap (λ z. (e *ℤ p) +ℤ z) (sum-suc k ps es (omega arith) (omega arith)) ∙ sym (+ℤ-assoc (e *ℤ p) _ _)
+    ap (λ z. (p *ℤ e) +ℤ z) (sum-suc k ps es (omega arith) (omega arith)) ∙ sym (+ℤ-assoc (p *ℤ e) _ _)
 
 size-of-sum : (x y : ℤ) → natAbs (x +ℤ y) ≤ natAbs x + natAbs y
 size-of-sum x y = omega (arith, ints)
@@ -46,7 +46,7 @@ sum-within (suc k) [] es ls n h = omega arith
 sum-within (suc k) (p ∷ ps) [] ls n h = omega arith
 sum-within (suc k) (p ∷ ps) (e ∷ es) [] n h = absurd (omega arith)
 sum-within (suc k) (p ∷ ps) (e ∷ es) (l ∷ ls) n h =
-    omega (arith, size-of-sum (e *ℤ p) (sum-of-pitches (take k ps) es), size-of-product e p, mul-le-mul-right (natAbs p) (h .0), sum-within k ps es ls (omega arith) (h .1))
+    omega (arith, size-of-sum (p *ℤ e) (sum-of-pitches (take k ps) es), size-of-product p e, mul-le-mul-left (natAbs p) (h .0), sum-within k ps es ls (omega arith) (h .1))
 
 partly-within : (r : Ratio) (k : ℕ) → natAbs (sum-of-pitches (take k prime-pitches) (r .exponents)) ≤ 221404354
 partly-within r k = sum-within k prime-pitches (r .exponents) limits (omega (arith, r .six)) (ratio-within r)
@@ -57,10 +57,10 @@ pitch-within r = partly-within r 6
 
 -- one more place: its part, and the sum with it, fit, and the sum is the next one
 pub sum-next : (r : Ratio) (k : ℕ) (total exponent : ℤ) → k < 6 → SFits w8 (getD (r .exponents) k (pos 0)) → total ≡ sum-of-pitches (take k prime-pitches) (r .exponents) → exponent ≡ toZ w8 (ofZ w8 (getD (r .exponents) k (pos 0)))
-    → let part : ℤ = exponent *ℤ getD prime-pitches k (pos 0) in
+    → let part : ℤ = getD prime-pitches k (pos 0) *ℤ exponent in
     SFits w32 part × (SFits w32 (total +ℤ part) × (total +ℤ part ≡ sum-of-pitches (take (k + 1) prime-pitches) (r .exponents)))
 sum-next r k total exponent h fits before here =
-    let part : ℤ = exponent *ℤ getD prime-pitches k (pos 0) in
+    let part : ℤ = getD prime-pitches k (pos 0) *ℤ exponent in
     let same : exponent ≡ getD (r .exponents) k (pos 0) = here ∙ toZ-ofZ w8 _ fits in
     let next : total +ℤ part ≡ sum-of-pitches (take (k + 1) prime-pitches) (r .exponents) =
     rw add-one (cc (sum-suc k prime-pitches (r .exponents) h (omega (arith, r .six)))) in

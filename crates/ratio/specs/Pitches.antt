@@ -8,11 +8,11 @@ use Rattle.ratio.specs.declared.ratio.Ratio.{Ratio}
 abbrev pub prime-pitches : List ℤ
 prime-pitches = pos 1200000 ∷ (pos 1901955 ∷ (pos 2786314 ∷ (pos 3368826 ∷ (pos 4151318 ∷ (pos 4440528 ∷ [])))))
 
--- the sum of each exponent times the pitch at its place
+-- the sum of each pitch times the exponent at its place
 abbrev pub sum-of-pitches : List ℤ → List ℤ → ℤ
 sum-of-pitches [] es = pos 0
 sum-of-pitches (p ∷ ps) [] = pos 0
-sum-of-pitches (p ∷ ps) (e ∷ es) = (e *ℤ p) +ℤ sum-of-pitches ps es
+sum-of-pitches (p ∷ ps) (e ∷ es) = (p *ℤ e) +ℤ sum-of-pitches ps es
 
 -- the pitch of a ratio: each prime's as often as the ratio has it
 abbrev pub ratio-pitch : Ratio → ℤ

@@ -15,14 +15,14 @@ const PRIME_PITCHES: [i32; 6] = [
 ];
 
 impl Ratio {
-    /// The pitch of this ratio above 1/1 in thousandths of a cent, negative below it: the sum of each exponent times
-    /// its prime's pitch.
+    /// The pitch of this ratio above 1/1 in thousandths of a cent, negative below it: the sum of each prime's
+    /// pitch times its exponent.
     pub fn pitch(&self) -> i32
         ensures { λ r. ⌜ r ≡ ratio-pitch (now (self .entry)) ⌝ }
     {
         let mut total = 0;
         for place in 0..6 {
-            total += i32::from(self.exponents[place]) * PRIME_PITCHES[place];
+            total += PRIME_PITCHES[place] * i32::from(self.exponents[place]);
         }
         total
     }

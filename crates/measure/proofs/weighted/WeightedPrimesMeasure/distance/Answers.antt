@@ -13,7 +13,7 @@ next : (c : need.After-from)
     (sum ≤ 184000000) × (sum ≡ weighted (take (c .loop-place .place + 1) (c .args .self .now .weights)) (c .args .a .now .exponents) (c .args .b .now .exponents))
 next c =
     distance-next (c .args .self .now) (c .args .a .now) (c .args .b .now) (c .exponents-start .result) (c .exponents-end .result) (c .loop-place .place) (c .loop-place .total) (c .from .result)
-    (c .exponents-start .ensures .held) (c .exponents-end .ensures .held) (c .loop-place-test .taken) (search needs) (search needs) (c .loop-place .inv) (c .from .ensures ∙ c .abs-diff .ensures)
+    (c .exponents-start .ensures .held) (c .exponents-end .ensures .held) (omega arith) (search needs) (search needs) (c .loop-place .inv) (c .from .ensures ∙ c .abs-diff .ensures)
 
 pub mul-total : need.mul-total
 mul-total c = omega (arith, next c .0)
