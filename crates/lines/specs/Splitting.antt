@@ -1,0 +1,23 @@
+-- The lines of an input, which byte 10 ends.
+use mathlib.Core.Bool.{cond}
+use mathlib.Core.List.{List, [], _∷_, _++_}
+use Prim.Native.Nat.{ℕ}
+use lib.Dec.{eqb}
+
+-- the lines that byte 10 ends in the bytes, if `line` is what the first of them begins with
+abbrev pub ended-on : List ℕ → List ℕ → List (List ℕ)
+ended-on line [] = []
+ended-on line (b ∷ bs) = cond (eqb b 10) (line ∷ ended-on [] bs) (ended-on (line ++ (b ∷ [])) bs)
+
+-- the bytes after the last byte 10, and all of them after `line` if there is none
+abbrev pub open-on : List ℕ → List ℕ → List ℕ
+open-on line [] = line
+open-on line (b ∷ bs) = cond (eqb b 10) (open-on [] bs) (open-on (line ++ (b ∷ [])) bs)
+
+-- the lines of an input that byte 10 has ended, without it
+abbrev pub ended : List ℕ → List (List ℕ)
+ended bs = ended-on [] bs
+
+-- the bytes of an input after its last byte 10
+abbrev pub open-line : List ℕ → List ℕ
+open-line bs = open-on [] bs

@@ -1,0 +1,4 @@
+//! The lines of an input, and numbers that are written with decimals.
+
+pub mod fixed;
+pub mod line;
