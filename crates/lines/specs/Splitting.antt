@@ -3,6 +3,7 @@ use mathlib.Core.Bool.{cond}
 use mathlib.Core.List.{List, [], _∷_, _++_}
 use Prim.Native.Nat.{ℕ}
 use lib.Dec.{eqb}
+use Rattle.std.specs.Joined.{joined}
 
 -- the lines that byte 10 ends in the bytes, if `line` is what the first of them begins with
 abbrev pub ended-on : List ℕ → List ℕ → List (List ℕ)
@@ -21,3 +22,7 @@ ended bs = ended-on [] bs
 -- the bytes of an input after its last byte 10
 abbrev pub open-line : List ℕ → List ℕ
 open-line bs = open-on [] bs
+
+-- the input that has these lines, each with byte 10 after it, and then the open line
+abbrev pub rejoin : List (List ℕ) → List ℕ → List ℕ
+rejoin lines rest = joined (λ line. line ++ (10 ∷ [])) lines ++ rest
