@@ -12,14 +12,25 @@ use Rattle.std.specs.Text.{digitValue}
 use Rattle.std.specs.Written.{decimal}
 use Rattle.lines.specs.Decimals.{last-digits, with-decimals}
 
+-- the last digit is written
 pub last-digit : (n : ℕ) → decimal (n % 10) ≡ last-digits 1 n
 last-digit n = decimal-digit (n % 10) (omega arith) ∙ ap (λ d. (48 + d) ∷ []) (omega arith)
 
+-- the last two digits are written
 pub two-digits : (n : ℕ) → decimal (n / 10 % 10) ++ decimal (n % 10) ≡ last-digits 2 n
 two-digits n = rw (decimal-digit (n / 10 % 10) (omega arith), last-digit n)
 
+-- the last three digits are written
 pub three-digits : (n : ℕ) → decimal (n / 100 % 10) ++ (decimal (n / 10 % 10) ++ decimal (n % 10)) ≡ last-digits 3 n
 three-digits n = rw (two-digits n, decimal-digit (n / 100 % 10) (omega arith))
+
+-- wholes, period and two digits
+pub two-decimals : (n : ℕ) → decimal (n / 100) ++ (codes "." ++ (decimal (n / 10 % 10) ++ decimal (n % 10))) ≡ with-decimals 2 n
+two-decimals n = ap (λ ds. decimal (n / 100) ++ (codes "." ++ ds)) (two-digits n)
+
+-- wholes, period and three digits
+pub three-decimals : (n : ℕ) → decimal (n / 1000) ++ (codes "." ++ (decimal (n / 100 % 10) ++ (decimal (n / 10 % 10) ++ decimal (n % 10)))) ≡ with-decimals 3 n
+three-decimals n = ap (λ ds. decimal (n / 1000) ++ (codes "." ++ ds)) (three-digits n)
 
 -- digits that are read after others
 pub read-after : (n : ℕ) (ds es : List ℕ) → valueAfter 10 n (ds ++ es) ≡ valueAfter 10 (valueAfter 10 n ds) es

@@ -4,8 +4,10 @@ use mathlib.Core.List.{List, [], _∷_, _++_, append-nil, append-assoc}
 use mathlib.Core.Path.{_≡_, refl, sym, ap, _∙_}
 use Prim.Native.Nat.{ℕ}
 use lib.Dec.{eqb}
-use Rattle.std.proofs.shelf.Tests.{eqb-true}
-use Rattle.lines.specs.Splitting.{ended-on, open-on, ended, open-line, rejoin}
+use Rattle.std.proofs.shelf.Elements.{all-push}
+use Rattle.std.proofs.shelf.Tests.{eqb-true, eqb-false}
+use Rattle.std.specs.shelf.Lists.{All}
+use Rattle.lines.specs.Splitting.{ended-on, open-on, ended, open-line, rejoin, Unbroken, Split}
 
 -- the lines that two parts end: the second goes on with the line that the first leaves open
 pub ended-++ : (line xs ys : List ℕ) → ended-on line (xs ++ ys) ≡ ended-on line xs ++ ended-on (open-on line xs) ys
@@ -40,3 +42,15 @@ rejoined line (b ∷ bs) = by (eqb b 10) refl (rejoined [] bs) (rejoined (line +
   by : (v : Bool) → eqb b 10 ≡ v → rejoin (ended-on [] bs) (open-on [] bs) ≡ bs → rejoin (ended-on (line ++ (b ∷ [])) bs) (open-on (line ++ (b ∷ [])) bs) ≡ (line ++ (b ∷ [])) ++ bs → rejoin (cond v (line ∷ ended-on [] bs) (ended-on (line ++ (b ∷ [])) bs)) (cond v (open-on [] bs) (open-on (line ++ (b ∷ [])) bs)) ≡ line ++ (b ∷ bs)
   by true e anew onward = append-assoc (line ++ (10 ∷ [])) _ _ ∙ ap (λ rest. (line ++ (10 ∷ [])) ++ rest) anew ∙ append-assoc line (10 ∷ []) bs ∙ ap (λ c. line ++ (c ∷ bs)) (sym (eqb-true b 10 e))
   by false e anew onward = onward ∙ append-assoc line (b ∷ []) bs
+
+-- no line that is cut off holds byte 10
+pub cut : (line bs : List ℕ) → Unbroken line → All Unbroken (ended-on line bs) × Unbroken (open-on line bs)
+cut line [] whole = (tt, whole)
+cut line (b ∷ bs) whole = by (eqb b 10) refl (cut [] bs tt) (cut (line ++ (b ∷ [])) bs) where
+  by : (v : Bool) → eqb b 10 ≡ v → All Unbroken (ended-on [] bs) × Unbroken (open-on [] bs) → (Unbroken (line ++ (b ∷ [])) → All Unbroken (ended-on (line ++ (b ∷ [])) bs) × Unbroken (open-on (line ++ (b ∷ [])) bs)) → All Unbroken (cond v (line ∷ ended-on [] bs) (ended-on (line ++ (b ∷ [])) bs)) × Unbroken (cond v (open-on [] bs) (open-on (line ++ (b ∷ [])) bs))
+  by true e anew onward = ((whole, anew .0), anew .1)
+  by false e anew onward = onward (all-push _ line b whole (eqb-false b 10 e))
+
+-- every input is split into its lines
+pub split : (input : List ℕ) → Split input
+split input = record { rejoins = rejoined [] input; unbroken = cut [] input tt .0; last-unbroken = cut [] input tt .1 }

@@ -51,3 +51,19 @@ pub impl fmt::Display for Thousandths as ThousandthsDisplay {
         }
     }
 }
+
+#[cfg(test)]
+mod tests {
+    use super::*;
+    use std::test::*;
+
+    #[test]
+    fn decimals(rt: LibcRuntime) -> Result<(), Fail> {
+        let heap = rt.alloc();
+        check_eq(Thousandths(590224).to_string(heap)?.as_str(), "590.224")?;
+        check_eq(Thousandths(-13686).to_string(heap)?.as_str(), "-13.686")?;
+        check_eq(Thousandths(-5).to_string(heap)?.as_str(), "-0.005")?;
+        check_eq(Hundredths(1673).to_string(heap)?.as_str(), "16.73")?;
+        check_eq(Hundredths(5).to_string(heap)?.as_str(), "0.05")
+    }
+}
