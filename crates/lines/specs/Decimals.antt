@@ -5,7 +5,7 @@ use lib.Chars.{codes}
 use lib.IntN.{ℤ, pos, negsuc}
 use Rattle.std.specs.Written.{decimal}
 
--- the last k digits of n
+-- the last k digits of n, a digit d as the byte 48 + d
 abbrev pub last-digits : ℕ → ℕ → List ℕ
 last-digits zero n = []
 last-digits (suc k) n = (48 + n / 10 ^ k % 10) ∷ last-digits k n

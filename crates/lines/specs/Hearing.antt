@@ -1,9 +1,7 @@
 -- What a line holds of the bytes that were read.
-use mathlib.Core.Bool.{Bool}
 use mathlib.Core.List.{List}
 use mathlib.Core.Path.{_≡_}
 use Prim.Native.Nat.{ℕ}
-use lib.Dec.{T}
 use lib.ListN.{take}
 use Rattle.lines.specs.declared.line.Line.{Line}
 
@@ -14,7 +12,3 @@ held line = take (line .len) (line .bytes)
 -- the line holds the first 81 bytes of `past`, the bytes since the last line end
 abbrev pub Heard : Line → List ℕ → Type 0
 Heard line past = held line ≡ take 81 past
-
--- the answer is true exactly if `P` holds
-abbrev pub Tells : Bool → Type 0 → Type 0
-Tells answer P = (T answer → P) × (P → T answer)

@@ -63,6 +63,7 @@ mod tests {
         check_eq(Thousandths(590224).to_string(heap)?.as_str(), "590.224")?;
         check_eq(Thousandths(-13686).to_string(heap)?.as_str(), "-13.686")?;
         check_eq(Thousandths(-5).to_string(heap)?.as_str(), "-0.005")?;
+        check_eq(Thousandths(0).to_string(heap)?.as_str(), "0.000")?;
         check_eq(Hundredths(1673).to_string(heap)?.as_str(), "16.73")?;
         check_eq(Hundredths(5).to_string(heap)?.as_str(), "0.05")
     }

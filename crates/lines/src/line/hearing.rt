@@ -3,7 +3,8 @@
 ghost use mathlib.Core.List.{List, [], _∷_, _++_};
 ghost use mathlib.Core.Path.{_≡_};
 ghost use Prim.Native.Nat.{ℕ};
-ghost use Rattle.lines.specs.Hearing.{held, Heard, Tells};
+ghost use Rattle.lines.specs.Hearing.{held, Heard};
+ghost use Rattle.std.specs.Orderings.{Decides};
 use super::LONGEST_LINE;
 use super::Line;
 
@@ -18,7 +19,7 @@ impl Line {
         }
     }
 
-    /// Reads one byte more of the line.
+    /// Reads one byte more of the line. Beyond 81 bytes it keeps nothing more.
     pub fn push(&mut self, byte: u8)
         ensures heard { λ _. ⌜ ((past : List ℕ) → Heard (now (self .entry)) past → Heard (now (self .exit)) (past ++ (byte ∷ []))) ⌝ }
     {
@@ -44,8 +45,8 @@ impl Line {
 
     /// Whether nothing of the line is read yet.
     pub fn is_empty(&self) -> bool
-        ensures nothing_held { λ r. ⌜ Tells r (held (now (self .entry)) ≡ []) ⌝ }
-        ensures nothing_heard { λ r. ⌜ ((past : List ℕ) → Heard (now (self .entry)) past → Tells r (past ≡ [])) ⌝ }
+        ensures nothing_held { λ r. ⌜ Decides r (held (now (self .entry)) ≡ []) ⌝ }
+        ensures nothing_heard { λ r. ⌜ ((past : List ℕ) → Heard (now (self .entry)) past → Decides r (past ≡ [])) ⌝ }
     {
         self.len == 0
     }
