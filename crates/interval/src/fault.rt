@@ -32,8 +32,16 @@ impl LineFault {
         ensures { λ r. ⌜ r ≡ line-refusal self ⌝ }
     {
         match self {
-            LineFault::TooLong => Refusal { layer: Layer::Text, number: 2, column: 81 },
-            LineFault::NoRatioWord => Refusal { layer: Layer::Text, number: 5, column: 1 },
+            LineFault::TooLong => Refusal {
+                layer: Layer::Text,
+                number: 2,
+                column: 81,
+            },
+            LineFault::NoRatioWord => Refusal {
+                layer: Layer::Text,
+                number: 5,
+                column: 1,
+            },
             LineFault::Entry(fault) => fault.refusal(1),
         }
     }

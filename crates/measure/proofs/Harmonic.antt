@@ -3,7 +3,7 @@ use mathlib.Core.Path.{_≡_, refl, sym, ap, subst, _∙_}
 use mathlib.Core.List.{List, [], _∷_, map}
 use Prim.Native.Nat.{ℕ, zero, suc, _+_, _*_, _^_, _<_, _≤_}
 use native.Mathlib.Omega.{arith}
-use native.Mathlib.Nat.{mul-comm, mul-one, one-mul, add-mul, mul-zero, zero-mul, mul-le-mul-right, pow-zero, pow-succ'}
+use native.Mathlib.Nat.{mul-comm, mul-one, one-mul, add-mul, mul-zero, zero-mul, mul-le-mul-right, mul-pos, pow-zero, pow-succ'}
 use lib.IntN.{ℤ, pos, negsuc, natAbs, negℤ, _-ℤ_}
 use lib.ListN.{length, length-map}
 use borrow.Author.Differences.{up, down}
@@ -16,9 +16,10 @@ use Rattle.std.specs.shelf.Lists.{All}
 use Rattle.ratio.proofs.Factoring.{plus, length-plus, product-plus}
 use Rattle.ratio.proofs.Entered.{quotient-once}
 use Rattle.ratio.proofs.Coprime.{no-common}
-use Rattle.ratio.proofs.Terms.{numerator-neg, denominator-neg}
+use Rattle.ratio.proofs.Terms.{numerator-neg, denominator-neg, product-some}
+use Rattle.ratio.proofs.Lowest.{primes-some}
 use Rattle.measure.specs.Apart.{apart}
-use Rattle.measure.specs.Weights.{weighted}
+use Rattle.measure.specs.Weights.{weighted, weighted-distance}
 use Rattle.measure.specs.Harmonic.{sum-by-primes, Disharmonicity, HarmonicDistance, Additive, SumOfParts}
 
 -- the exponents of a quotient of two ratios
@@ -67,18 +68,28 @@ weighted-sum (w ∷ ws) [] (y ∷ ys) h = absurd (omega arith)
 weighted-sum (w ∷ ws) (x ∷ xs) [] h = absurd (omega arith)
 weighted-sum (w ∷ ws) (x ∷ xs) (y ∷ ys) h = omega (arith, mul-comm w (apart x y), weighted-sum ws xs ys (omega arith))
 
-pub harmonic : (ws : List ℕ) (x y : Ratio) → HarmonicDistance ws x y (weighted ws (x .exponents) (y .exponents))
+pub harmonic : (ws : List ℕ) (x y : Ratio) → HarmonicDistance ws x y (weighted-distance ws x y)
 harmonic ws x y = record {
   powers = less (x .exponents) (y .exponents);
   six = length-less (x .exponents) (y .exponents) 6 (x .six) (y .six);
   factors = quotient-of (x .exponents) (y .exponents) (x .six) (y .six);
-  sum = weighted-sum ws (x .exponents) (y .exponents) (x .six ∙ sym (y .six))
+  sum = weighted-sum ws (x .exponents) (y .exponents) (x .six ∙ sym (y .six));
 }
 
 -- a rational number has one disharmonicity
 pub disharmonicity-once : (ws : List ℕ) (n d g h : ℕ) → 0 < n → 0 < d → Disharmonicity ws n d g → Disharmonicity ws n d h → g ≡ h
 disharmonicity-once ws n d g h hn hd p q =
     p .sum ∙ (ap (sum-by-primes ws) (quotient-once n d (p .powers) (q .powers) hn hd (p .six) (q .six) (p .factors) (q .factors)) ∙ sym (q .sum))
+
+parts-some : (x y : Ratio) → (0 < numerator (x .exponents) * denominator (y .exponents)) × (0 < denominator (x .exponents) * numerator (y .exponents))
+parts-some x y =
+    let some : (f : ℤ → ℕ) (r : Ratio) → 0 < product primes (map f (r .exponents)) = λ f r. product-some primes (map f (r .exponents)) primes-some in
+    (mul-pos (some up x) (some down y), mul-pos (some down x) (some up y))
+
+pub harmonic-once : (ws : List ℕ) (x y : Ratio) (g : ℕ) → HarmonicDistance ws x y g → g ≡ weighted-distance ws x y
+harmonic-once ws x y g p =
+    let some = parts-some x y in
+    disharmonicity-once ws _ _ g _ (some .0) (some .1) p (harmonic ws x y)
 
 -- ---- whole numbers
 
@@ -142,7 +153,7 @@ additive ws x y g h p q =
       powers = less a (map negℤ b);
       six = length-less a (map negℤ b) 6 (p .six) nb;
       factors = multiplied x y _ _ _ _ _ _ (wa .0) (wb .0 ∙ sym (denominator-neg b)) (wa .1) (numerator-neg b ∙ wb .1) at;
-      sum = cc (p .sum, q .sum, sums-add ws a b (p .six ∙ sym (q .six)) (nothing-below primes a primes-large (p .six) (wa .1)) (nothing-below primes b primes-large (q .six) (wb .1)))
+      sum = cc (p .sum, q .sum, sums-add ws a b (p .six ∙ sym (q .six)) (nothing-below primes a primes-large (p .six) (wa .1)) (nothing-below primes b primes-large (q .six) (wb .1)));
     }
 
 -- ---- the two parts of a ratio
@@ -165,7 +176,7 @@ of-whole ws f es six = record {
   powers = lifted f es;
   six = length-map es (λ e. pos (f e)) ∙ six;
   factors = ap (λ n. product primes (map f es) * n) (lifted-down f primes es) ∙ (mul-one (product primes (map f es)) ∙ (sym (ap (product primes) (lifted-up f es)) ∙ sym (one-mul (numerator (lifted f es)))));
-  sum = refl
+  sum = refl;
 }
 
 both-sides : (e : ℤ) → natAbs e ≡ up e + down e
@@ -185,7 +196,7 @@ sum-of-parts ws es g six e = record {
   below = sum-by-primes ws (lifted down es);
   of-numerator = of-whole ws up es six;
   of-denominator = of-whole ws down es six;
-  sum = e ∙ sum-of-sides ws es
+  sum = e ∙ sum-of-sides ws es;
 }
 
 from-none : (e : ℤ) → apart (pos 0) e ≡ natAbs e
@@ -200,5 +211,5 @@ from-zero (w ∷ ws) (x ∷ zs) (e ∷ es) z l =
     let size = ap (λ v. apart v e) (z .0) ∙ from-none e in
     omega (arith, ap (λ n. w * n) size, mul-comm w (natAbs e), from-zero ws zs es (z .1) (omega arith))
 
-pub disharmonic : (ws : List ℕ) (r : Ratio) → weighted ws (unison .exponents) (r .exponents) ≡ sum-by-primes ws (r .exponents)
+pub disharmonic : (ws : List ℕ) (r : Ratio) → weighted-distance ws unison r ≡ sum-by-primes ws (r .exponents)
 disharmonic ws r = from-zero ws (unison .exponents) (r .exponents) (refl, (refl, (refl, (refl, (refl, (refl, tt)))))) (sym (r .six))

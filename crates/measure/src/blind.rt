@@ -1,6 +1,6 @@
 //! The measure that is blind to octaves.
 
-ghost use Rattle.ratio.specs.Parts.{octaveless};
+ghost use Rattle.measure.specs.Apart.{octave-blind};
 use crate::measure::Measure;
 use ratio::ratio::Ratio;
 
@@ -9,7 +9,7 @@ use ratio::ratio::Ratio;
 pub struct OctaveBlind<M>(pub M);
 
 pub impl<M: Measure> Measure for OctaveBlind<M> as OctaveBlindMeasure {
-    ghost dist = { λ m a b. M·Measure .dist (m .0) (octaveless a) (octaveless b) };
+    ghost dist = { λ m a b. octave-blind (M·Measure .dist (m .0)) a b };
 
     fn distance(&self, a: &Ratio, b: &Ratio) -> u32 {
         self.0.distance(&a.without_octaves(), &b.without_octaves())

@@ -1,7 +1,6 @@
 //! The measure by pitch.
 
-ghost use Rattle.ratio.specs.Pitches.{ratio-pitch};
-ghost use Rattle.measure.specs.Apart.{apart};
+ghost use Rattle.measure.specs.Apart.{pitch-gap};
 use crate::measure::Measure;
 use ratio::ratio::Ratio;
 
@@ -10,7 +9,7 @@ use ratio::ratio::Ratio;
 pub struct PitchGap;
 
 pub impl Measure for PitchGap as PitchGapMeasure {
-    ghost dist = { λ _ a b. apart (ratio-pitch a) (ratio-pitch b) };
+    ghost dist = { λ _ a b. pitch-gap a b };
 
     fn distance(&self, a: &Ratio, b: &Ratio) -> u32 {
         a.pitch().abs_diff(b.pitch())

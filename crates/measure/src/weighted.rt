@@ -1,14 +1,16 @@
 //! The measure by weights of the primes.
 
 ghost use mathlib.Core.Path.{_≡_};
-ghost use mathlib.Core.List.{map};
-ghost use Prim.Native.Nat.{_-_};
+ghost use Prim.Native.Nat.{ℕ};
 ghost use lib.ListN.{length};
 ghost use Rattle.std.specs.Orderings.{Decides};
 ghost use Rattle.std.specs.Results.{isOk};
 ghost use Rattle.std.specs.Vec.{made};
-ghost use Rattle.ratio.specs.Products.{primes};
-ghost use Rattle.measure.specs.Weights.{Allowed, AtEach, ByBarlow, barlow-weights, weighted};
+ghost use Rattle.ratio.specs.Products.{primes, numerator, denominator};
+ghost use Rattle.measure.specs.Weights.{Allowed, ByBarlow, barlow-weights, euler-weights, weighted-distance};
+ghost use Rattle.measure.specs.Harmonic.{HarmonicDistance, SumOfParts, Additive};
+ghost use Rattle.ratio.specs.Parts.{unison};
+ghost use Rattle.std.specs.shelf.Lists.{Each};
 use crate::fault::WeightFault;
 use crate::measure::Measure;
 use ratio::ratio::Ratio;
@@ -45,7 +47,7 @@ impl WeightedPrimes {
     /// Barlow's weights: for the prime p, 60,060 times (p - 1)²/p.
     pub fn barlow() -> WeightedPrimes
         ensures held { λ r. ⌜ r .weights ≡ barlow-weights ⌝ }
-        ensures rule { λ r. ⌜ AtEach ByBarlow primes (r .weights) ⌝ }
+        ensures rule { λ r. ⌜ Each ByBarlow primes (r .weights) ⌝ }
     {
         WeightedPrimes {
             weights: [30_030, 80_080, 192_192, 308_880, 546_000, 665_280],
@@ -54,7 +56,7 @@ impl WeightedPrimes {
 
     /// Euler's weights: for the prime p, p - 1.
     pub fn euler() -> WeightedPrimes
-        ensures { λ r. ⌜ r .weights ≡ map (λ p. p - 1) primes ⌝ }
+        ensures { λ r. ⌜ r .weights ≡ euler-weights ⌝ }
     {
         WeightedPrimes {
             weights: [1, 2, 4, 6, 10, 12],
@@ -63,12 +65,15 @@ impl WeightedPrimes {
 }
 
 pub impl Measure for WeightedPrimes as WeightedPrimesMeasure {
-    ghost dist = { λ m a b. weighted (m .weights) (a .exponents) (b .exponents) };
+    ghost dist = { λ m a b. weighted-distance (m .weights) a b };
 
-    /// The distance, which is 0 only between equal ratios.
+    /// The distance, which is 0 only between equal ratios, and is the harmonic distance with these weights as the
+    /// disharmonicities of the primes.
     fn distance(&self, a: &Ratio, b: &Ratio) -> u32
-        ensures value { λ r. ⌜ r ≡ weighted (now (self .entry) .weights) (now (a .entry) .exponents) (now (b .entry) .exponents) ⌝ }
+        ensures value { λ r. ⌜ r ≡ weighted-distance (now (self .entry) .weights) (now (a .entry)) (now (b .entry)) ⌝ }
         ensures separates { λ r. ⌜ (r ≡ 0 → now (a .entry) ≡ now (b .entry)) ⌝ }
+        ensures harmonic { λ r. ⌜ HarmonicDistance (now (self .entry) .weights) (now (a .entry)) (now (b .entry)) r ⌝ }
+        ensures only { λ r. ⌜ ((g : ℕ) → HarmonicDistance (now (self .entry) .weights) (now (a .entry)) (now (b .entry)) g → g ≡ r) ⌝ }
     {
         let start = a.exponents();
         let end = b.exponents();
@@ -77,5 +82,15 @@ pub impl Measure for WeightedPrimes as WeightedPrimesMeasure {
             total += self.weights[place] * u32::from(start[place].abs_diff(end[place]));
         }
         total
+    }
+
+    /// The disharmonicity of a ratio: that of its numerator plus that of its denominator, where on whole numbers the
+    /// disharmonicity of a product is the sum of those of its factors.
+    fn disharmonicity(&self, a: &Ratio) -> u32
+        ensures value { λ r. ⌜ r ≡ weighted-distance (now (self .entry) .weights) unison (now (a .entry)) ⌝ }
+        ensures parts { λ r. ⌜ SumOfParts (now (self .entry) .weights) (numerator (now (a .entry) .exponents)) (denominator (now (a .entry) .exponents)) r ⌝ }
+        ensures additive { λ _. ⌜ Additive (now (self .entry) .weights) ⌝ }
+    {
+        self.distance(&Ratio::unison(), a)
     }
 }

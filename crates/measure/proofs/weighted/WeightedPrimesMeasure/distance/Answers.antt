@@ -1,10 +1,12 @@
 use borrow.Author.Needs.{needs}
 use native.Mathlib.Omega.{arith}
-use mathlib.Core.Path.{_≡_, ap, sym, _∙_}
+use mathlib.Core.Path.{_≡_, ap, subst, sym, _∙_}
 use Prim.Native.Nat.{ℕ, _+_, _*_, _≤_}
 use lib.ListN.{getD, take}
 use lib.Seq.{take-all}
 use Rattle.measure.specs.Weights.{weighted}
+use Rattle.measure.specs.Harmonic.{HarmonicDistance}
+use Rattle.measure.proofs.Harmonic.{harmonic, harmonic-once}
 use Rattle.measure.proofs.Distances.{distance-next, only-zero}
 use Rattle.measure.proofs.weighted.WeightedPrimesMeasure.distance.Needs as need
 
@@ -28,4 +30,12 @@ pub returns : need.returns
 returns c =
     let all = ap (λ ws. weighted ws (c .args .a .now .exponents) (c .args .b .now .exponents)) (take-all (c .loop-place .place) (c .args .self .now .weights) (omega (arith, c .args .self .now .six))) in
     let value = c .loop-place .inv ∙ all in
-    record { value = value; separates = λ none. only-zero (c .args .self .now) (c .args .a .now) (c .args .b .now) (sym value ∙ none) }
+    let m = c .args .self .now in
+    let a = c .args .a .now in
+    let b = c .args .b .now in
+    record {
+      value = value;
+      separates = λ none. only-zero m a b (sym value ∙ none);
+      harmonic = subst (HarmonicDistance (m .weights) a b) (sym value) (harmonic (m .weights) a b);
+      only = λ g h. harmonic-once (m .weights) a b g h ∙ sym value;
+    }
