@@ -4,6 +4,8 @@ ghost use mathlib.Core.Path.{_≡_};
 ghost use Rattle.interval.specs.Faults.{line-refusal};
 ghost use Rattle.interval.specs.declared.fault.LineFault.the-variants.{Entry};
 use ratio::fault::RatioFault;
+use ratio::fault::RatioFaultDebug;
+use ratio::fault::RatioFaultPartialEq;
 use refusal::Layer;
 use refusal::Refusal;
 

@@ -4,4 +4,3 @@ pub mod answer;
 pub mod fault;
 pub mod interval;
 pub mod name;
-pub mod table;

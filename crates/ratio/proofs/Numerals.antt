@@ -50,8 +50,7 @@ parts-read-once w (Some p) (Some q) h g =
     cc (h .1 .1 .1, g .1 .1 .1, same .0, same .1)
 
 -- two numbers, written in decimal with a slash between, are read as these two
-pub parts-read-back : (n d : ℕ) (r : Option (ℕ × ℕ)) → n < 10 ^ 10 → d < 10 ^ 10 → PartsRead (decimal n ++ (47 ∷ decimal d)) r → r ≡ Some (n, d)
-parts-read-back n d r h g read =
-    let word = decimal n ++ (47 ∷ decimal d) in
-    let ratio : RatioWord word (decimal n) (decimal d) = record { above = decimal-numeral n h; below = decimal-numeral d g; joined = refl } in
-    parts-read-once word r (Some (n, d)) read (decimal n, (decimal d, (ratio, cc (decimal-writes n h, decimal-writes d g))))
+pub decimal-parts : (n d : ℕ) → n < 10 ^ 10 → d < 10 ^ 10 → PartsRead (decimal n ++ (47 ∷ decimal d)) (Some (n, d))
+decimal-parts n d h g =
+    let ratio : RatioWord (decimal n ++ (47 ∷ decimal d)) (decimal n) (decimal d) = record { above = decimal-numeral n h; below = decimal-numeral d g; joined = refl } in
+    (decimal n, (decimal d, (ratio, cc (decimal-writes n h, decimal-writes d g))))
