@@ -2,7 +2,7 @@
 use mathlib.Core.Path.{_≡_}
 use Prim.Native.Nat.{ℕ, _+_, _≤_}
 use native.Mathlib.Omega.{arith}
-use lib.IntN.{ℤ, natAbs, _-ℤ_}
+use lib.IntN.{ℤ, natAbs}
 use Rattle.std.proofs.shelf.Signed.{ints}
 use Rattle.measure.specs.Apart.{apart}
 

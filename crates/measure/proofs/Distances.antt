@@ -1,10 +1,10 @@
 -- The distance by weights: what the weights' limits and the ratios' limits give.
-use mathlib.Core.Path.{_≡_, ap, _∙_, sym}
+use mathlib.Core.Path.{_≡_, _∙_, sym}
 use mathlib.Core.List.{List}
 use Prim.Native.Nat.{ℕ, _+_, _*_, _<_, _≤_}
 use native.Mathlib.Omega.{arith}
-use lib.IntN.{ℤ, pos, natAbs, _-ℤ_}
-use lib.ListN.{length, getD, take}
+use lib.IntN.{ℤ, pos}
+use lib.ListN.{getD, take}
 use mir.Syntax.{w8}
 use mir.Val.{SFits, toZ, ofZ}
 use Rattle.std.specs.shelf.Lists.{All}

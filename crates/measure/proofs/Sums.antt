@@ -1,5 +1,5 @@
 -- The sum of weights times distances, place by place: it is a distance, it is bounded, and it tells lists apart.
-use mathlib.Core.Path.{_≡_, refl, ap, _∙_}
+use mathlib.Core.Path.{_≡_, refl}
 use mathlib.Core.List.{List, [], _∷_}
 use Prim.Native.Nat.{ℕ, zero, suc, _+_, _*_, _<_, _≤_}
 use native.Mathlib.Nat.{mul-zero, mul-add, mul-le-mul, mul-le-mul-left, mul-le-mul-right}

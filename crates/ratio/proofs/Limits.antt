@@ -3,11 +3,11 @@ use mathlib.Core.Path.{_≡_, refl}
 use mathlib.Core.Bool.{Bool, true, false, _&&_}
 use mathlib.Core.Logic.{⊎-elim}
 use mathlib.Core.List.{List, [], _∷_, map}
-use Prim.Native.Nat.{ℕ, zero, suc, _+_, _*_, _^_, _<_, _≤_}
+use Prim.Native.Nat.{ℕ, zero, suc, _*_, _^_, _<_, _≤_}
 use native.Mathlib.Nat.{one-le-pow, one-le-mul, pow-le-pow-right, le-mul-of-pos-right, mul-le-mul-right, one-mul}
 use native.Mathlib.Omega.{arith}
 use lib.Dec.{ltb}
-use lib.IntN.{ℤ, pos, negsuc, natAbs}
+use lib.IntN.{ℤ}
 use borrow.Author.Differences.{up, down, abs-is}
 use Rattle.std.proofs.shelf.Tests.{and-parts, ltb-true, cases-lt, false≢true}
 use Rattle.ratio.specs.Limits.{limits, Within}

@@ -1,7 +1,7 @@
 -- The unison, and a ratio with its octaves taken out.
 use mathlib.Core.Path.{_≡_, refl, _∙_}
-use mathlib.Core.List.{List, [], _∷_, map}
-use Prim.Native.Nat.{ℕ, _*_, _^_, _≤_}
+use mathlib.Core.List.{List, [], _∷_}
+use Prim.Native.Nat.{_≤_}
 use native.Mathlib.Nat.{one-le-pow, mul-le-mul-right, le-trans}
 use lib.Dec.{lit≤}
 use lib.IntN.{ℤ, pos}

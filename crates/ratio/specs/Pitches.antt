@@ -1,6 +1,5 @@
 -- The pitch of a ratio, in thousandths of a cent.
 use mathlib.Core.List.{List, [], _∷_}
-use Prim.Native.Nat.{ℕ}
 use lib.IntN.{ℤ, pos, _+ℤ_, _*ℤ_}
 use Rattle.ratio.specs.declared.ratio.Ratio.{Ratio}
 

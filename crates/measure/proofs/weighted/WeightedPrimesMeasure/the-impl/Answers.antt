@@ -1,7 +1,5 @@
 use native.Mathlib.Omega.{arith}
 use mathlib.Core.Path.{ap}
-use Prim.Native.Nat.{_≤_}
-use lib.ListN.{take}
 use lib.Seq.{take-all}
 use Rattle.measure.specs.Weights.{weighted}
 use Rattle.measure.proofs.Distances.{partly-within}
