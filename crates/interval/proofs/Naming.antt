@@ -59,7 +59,7 @@ text-named x =
       parts = (n, d);
       short = omega (arith, length-append (decimal n) (47 ∷ decimal d));
       read = decimal-parts n d n-small d-small;
-      entered = parts-entered x
+      entered = parts-entered x;
     }
 
 pub only-named : (line : List ℕ) (r : Result Ratio LineFault) → Named line r → (s : Result Ratio LineFault) → Named line s → s ≡ r

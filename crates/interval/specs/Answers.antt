@@ -2,11 +2,18 @@
 use mathlib.Core.Path.{_≡_}
 use mathlib.Core.List.{List, [], _∷_, _++_}
 use Prim.Native.Nat.{ℕ}
+use Rattle.std.specs.Of.String.{string-bytes}
+use Rattle.std.specs.declared.option.Option.{Option}
+use Rattle.std.specs.declared.option.Option.the-variants.{Some, None}
+use Rattle.std.specs.declared.string.String.{String}
 use Rattle.std.specs.declared.result.Result.{Result}
 use Rattle.std.specs.declared.result.Result.the-variants.{Ok, Err}
 use Rattle.refusal.specs.Texts.{refusal-line}
 use Rattle.ratio.specs.declared.ratio.Ratio.{Ratio}
 use Rattle.interval.specs.declared.fault.LineFault.{LineFault}
+use Rattle.lines.specs.Hearing.{Heard}
+use Rattle.lines.specs.Splitting.{ended, open-line}
+use Rattle.interval.specs.declared.table.Table.{Table}
 use Rattle.interval.specs.Faults.{line-refusal}
 use Rattle.interval.specs.Naming.{Named}
 use Rattle.interval.specs.Texts.{interval-text}
@@ -26,3 +33,13 @@ pub record Answered (line text : List ℕ) : Type 0 where
 abbrev pub AllAnswered : List (List ℕ) → List ℕ → Type 0
 AllAnswered [] text = text ≡ []
 AllAnswered (line ∷ lines) text = (first : List ℕ) × ((rest : List ℕ) × Answered line first × AllAnswered lines rest × (text ≡ first ++ (10 ∷ rest)))
+
+-- what is written of an answer that may be there: its text and byte 10
+abbrev pub spoken : {Z : Type 0} → Option (String Z) → List ℕ
+spoken None = []
+spoken (Some text) = string-bytes text ++ (10 ∷ [])
+
+-- the table has heard the bytes `past` since it began, and `said` answers the lines that byte 10 has ended there
+pub record Followed (table : Table) (past said : List ℕ) : Type 0 where
+  pub heard : Heard (table .line) (open-line past)
+  pub answered : AllAnswered (ended past) said

@@ -4,3 +4,4 @@ pub mod answer;
 pub mod fault;
 pub mod interval;
 pub mod name;
+pub mod table;

@@ -25,6 +25,15 @@ ended bs = ended-on [] bs
 abbrev pub open-line : List ℕ → List ℕ
 open-line bs = open-on [] bs
 
+-- the line alone, or no line if it is empty
+abbrev pub unless-empty : List ℕ → List (List ℕ)
+unless-empty [] = []
+unless-empty (b ∷ bs) = (b ∷ bs) ∷ []
+
+-- the lines of a whole input: those that byte 10 has ended, and the open one unless it is empty
+abbrev pub all-lines : List ℕ → List (List ℕ)
+all-lines bs = ended bs ++ unless-empty (open-line bs)
+
 -- the input that has these lines, each with byte 10 after it, and then the open line
 abbrev pub rejoin : List (List ℕ) → List ℕ → List ℕ
 rejoin lines rest = joined (λ line. line ++ (10 ∷ [])) lines ++ rest

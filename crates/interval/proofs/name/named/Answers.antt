@@ -29,7 +29,7 @@ returns-in-Break-new c =
       parts = (c .in-Some .numerator, c .in-Some .denominator);
       short = omega arith;
       read = c .in-Some .ensures tt .form;
-      entered = c .in-Break-new .ensures tt .entered
+      entered = c .in-Break-new .ensures tt .entered;
     }) in
     record { names = names; only = only-named line (c .from-residual .result) names; again = printed-named line (c .from-residual .result) names }
 
@@ -41,6 +41,6 @@ returns c =
       parts = (c .in-Some .numerator, c .in-Some .denominator);
       short = omega arith;
       read = c .in-Some .ensures tt .form;
-      entered = c .in-Continue-new .ensures tt .entered
+      entered = c .in-Continue-new .ensures tt .entered;
     } in
     record { names = names; only = only-named line (Ok r) names; again = printed-named line (Ok r) names }
