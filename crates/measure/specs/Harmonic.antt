@@ -1,5 +1,5 @@
--- The disharmonicity and the harmonic distance of A. Gräf's "On musical scale rationalization" (2002), as given there,
--- with the disharmonicities of the primes in whole units.
+-- Disharmonicity and harmonic distance as Albert Gräf defines them (on the rationalization of musical scales, 2002), with
+-- the disharmonicities of the primes in whole units.
 use mathlib.Core.Path.{_≡_}
 use mathlib.Core.List.{List, [], _∷_}
 use Prim.Native.Nat.{ℕ, _+_, _*_}
