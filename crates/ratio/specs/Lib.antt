@@ -8,3 +8,4 @@ pub mod Parts
 pub mod Pitches
 pub mod Words
 pub mod Scanning
+pub mod Computed

@@ -1,0 +1,4 @@
+pub mod Faults
+pub mod Book
+pub mod Held
+pub mod Changes
