@@ -1,10 +1,15 @@
 -- When a draft holds a book.
+use mathlib.Core.Bool.{true}
 use mathlib.Core.Path.{_≡_}
 use mathlib.Core.List.{List, map}
 use Prim.Native.Nat.{ℕ, _+_, _-_, _*_, _/_, _<_, max, min}
 use lib.ListN.{getD, take}
 use Rattle.ratio.specs.declared.ratio.Ratio.{Ratio}
-use Rattle.draft.specs.Book.{Noted, Book}
+use Rattle.std.specs.Results.{isErr}
+use Rattle.std.specs.declared.result.Result.{Result}
+use Rattle.draft.specs.Book.{Noted, Book, refusal, fed, answer}
+use Rattle.draft.specs.declared.call.Call.{Call}
+use Rattle.draft.specs.declared.fault.DraftFault.{DraftFault}
 use Rattle.draft.specs.declared.draft.Draft.{Draft}
 use Rattle.draft.specs.declared.tone.Tone.{Tone}
 
@@ -28,3 +33,10 @@ pair-place i j = max i j * (max i j - 1) / 2 + min i j
 pub record Holds (d : Draft) (b : Book) : Type 0 where
   pub tones : map noted (entered-tones d) ≡ b .tones
   pub bounds : (i j : ℕ) → i < 32 → j < 32 → (i ≡ j → ⊥) → getD (d .bounds) (pair-place i j) 0 ≡ b .bound i j
+
+-- a call to a draft went by the book: for every book that the draft held, the answer is the book's and it now holds the
+-- book that was fed the call; a refusal leaves every field as it was
+pub record ByBook (before after : Draft) (call : Call) (r : Result (Unit {0}) DraftFault) : Type 0 where
+  pub answers : (b : Book) → Holds before b → r ≡ answer (refusal b call)
+  pub holds : (b : Book) → Holds before b → Holds after (fed b call)
+  pub unchanged : isErr r ≡ true → after ≡ before

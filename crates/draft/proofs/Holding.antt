@@ -1,0 +1,47 @@
+-- What a draft holds, tone by tone. Assumes nothing.
+use mathlib.Core.Path.{_≡_, refl, sym, ap, subst, _∙_}
+use mathlib.Core.List.{List, [], _∷_, _++_, map}
+use Prim.Native.Nat.{ℕ, zero, suc, _+_, _<_, _≤_}
+use native.Mathlib.Omega.{arith}
+use lib.ListN.{length, getD, take, set, length-map}
+use Rattle.std.proofs.shelf.Lists.{length-take-le, take-more-set, map-append, getD-map, getD-take, getD-read}
+use Rattle.ratio.specs.declared.ratio.Ratio.{Ratio}
+use Rattle.draft.specs.Book.{Noted, Book, candidates-of, changed}
+use Rattle.draft.specs.Held.{listed, noted, Holds}
+use Rattle.draft.specs.declared.draft.Draft.{Draft}
+use Rattle.draft.specs.declared.tone.Tone.{Tone}
+
+pub held-count : (d : Draft) (b : Book) → Holds d b → length (b .tones) ≡ d .count
+held-count d b h =
+    let long = d .places in
+    let few = d .few in
+    ap length (sym (h .tones)) ∙ (length-map (take (d .count) (d .tones)) noted ∙ length-take-le (d .count) (d .tones) (omega arith))
+
+noted-at : (ts : List Tone) (t n : ℕ) (x : Tone) → t < n → n ≤ length ts → x ≡ getD ts t x → getD (map (λ n. n .candidates) (map noted (take n ts))) t [] ≡ listed x
+noted-at [] t n x h i is = absurd (omega arith)
+noted-at (z ∷ ts) t zero x h i is = absurd (omega arith)
+noted-at (z ∷ ts) zero (suc n) x h i is = ap listed (sym is)
+noted-at (z ∷ ts) (suc t) (suc n) x h i is = noted-at ts t n x (omega arith) (omega arith) is
+
+same-noted : (m n : Noted) → m .pitch ≡ n .pitch → m .candidates ≡ n .candidates → m ≡ n
+same-noted m n p q = λ i. record { pitch = p i; candidates = q i }
+
+-- the book has the candidates that the draft's tone lists
+pub held-candidates : (d : Draft) (b : Book) → Holds d b → (t : ℕ) (x : Tone) → t < d .count → x ≡ getD (d .tones) t x → candidates-of b t ≡ listed x
+held-candidates d b h t x within is =
+    let long = d .places in
+    let few = d .few in
+    ap (λ ns. getD (map (λ n. n .candidates) ns) t []) (sym (h .tones)) ∙ noted-at (d .tones) t (d .count) x within (omega arith) is
+
+-- one tone more
+pub tone-more : (ts : List Tone) (n : ℕ) (x : Tone) → n < length ts → map noted (take (n + 1) (set ts n x)) ≡ map noted (take n ts) ++ (noted x ∷ [])
+tone-more ts n x h = ap (map noted) (take-more-set ts n x h) ∙ map-append noted (take n ts) (x ∷ [])
+
+-- one tone changed
+pub tone-changed : (ts : List Tone) (t n : ℕ) (x y : Tone) (f : List Ratio → List Ratio) → t < n → n ≤ length ts → x ≡ getD ts t x
+    → y .pitch ≡ x .pitch → listed y ≡ f (listed x) → map noted (take n (set ts t y)) ≡ changed t f (map noted (take n ts))
+tone-changed [] t n x y f h i is p l = absurd (omega arith)
+tone-changed (z ∷ ts) t zero x y f h i is p l = absurd (omega arith)
+tone-changed (z ∷ ts) zero (suc n) x y f h i is p l =
+    ap (λ m. m ∷ map noted (take n ts)) (same-noted (noted y) (record { pitch = z .pitch; candidates = f (listed z) }) (p ∙ ap (λ w. w .pitch) is) (l ∙ ap (λ w. f (listed w)) is))
+tone-changed (z ∷ ts) (suc t) (suc n) x y f h i is p l = ap (λ ns. noted z ∷ ns) (tone-changed ts t n x y f (omega arith) (omega arith) is p l)
