@@ -4,10 +4,10 @@ use mathlib.Core.List.{List, [], _∷_, _++_, map}
 use Prim.Native.Nat.{ℕ, zero, suc, _+_, _<_, _≤_}
 use native.Mathlib.Omega.{arith}
 use lib.ListN.{length, getD, take, set, length-map}
-use Rattle.std.proofs.shelf.Lists.{length-take-le, take-more-set, map-append, getD-map, getD-take, getD-read}
+use Rattle.std.proofs.shelf.Lists.{length-take-le, take-more-set, map-append, getD-default}
 use Rattle.ratio.specs.declared.ratio.Ratio.{Ratio}
 use Rattle.draft.specs.Book.{Noted, Book, candidates-of, changed}
-use Rattle.draft.specs.Held.{listed, noted, Holds}
+use Rattle.draft.specs.Held.{listed, noted, pair-place, Holds}
 use Rattle.draft.specs.declared.draft.Draft.{Draft}
 use Rattle.draft.specs.declared.tone.Tone.{Tone}
 
@@ -23,7 +23,7 @@ noted-at (z ∷ ts) t zero x h i is = absurd (omega arith)
 noted-at (z ∷ ts) zero (suc n) x h i is = ap listed (sym is)
 noted-at (z ∷ ts) (suc t) (suc n) x h i is = noted-at ts t n x (omega arith) (omega arith) is
 
-same-noted : (m n : Noted) → m .pitch ≡ n .pitch → m .candidates ≡ n .candidates → m ≡ n
+pub same-noted : (m n : Noted) → m .pitch ≡ n .pitch → m .candidates ≡ n .candidates → m ≡ n
 same-noted m n p q = λ i. record { pitch = p i; candidates = q i }
 
 -- the book has the candidates that the draft's tone lists
@@ -45,3 +45,22 @@ tone-changed (z ∷ ts) t zero x y f h i is p l = absurd (omega arith)
 tone-changed (z ∷ ts) zero (suc n) x y f h i is p l =
     ap (λ m. m ∷ map noted (take n ts)) (same-noted (noted y) (record { pitch = z .pitch; candidates = f (listed z) }) (p ∙ ap (λ w. w .pitch) is) (l ∙ ap (λ w. f (listed w)) is))
 tone-changed (z ∷ ts) (suc t) (suc n) x y f h i is p l = ap (λ ns. noted z ∷ ns) (tone-changed ts t n x y f (omega arith) (omega arith) is p l)
+
+-- the draft with one tone replaced holds the book with the candidates of that tone changed
+pub tone-replaced : (d d′ : Draft) (b : Book) → Holds d b → (t : ℕ) (x y : Tone) (f : List Ratio → List Ratio) → t < d .count → x ≡ getD (d .tones) t x
+    → y .pitch ≡ x .pitch → listed y ≡ f (listed x) → d′ .tones ≡ set (d .tones) t y → d′ .count ≡ d .count → d′ .bounds ≡ d .bounds
+    → Holds d′ (record { tones = changed t f (b .tones); bound = b .bound })
+tone-replaced d d′ b h t x y f within is p l tones count bounds =
+    let long = d .places in
+    let few = d .few in
+    record {
+      tones =
+        ap (λ n. map noted (take n (d′ .tones))) count
+        ∙ (ap (λ ts. map noted (take (d .count) ts)) tones
+        ∙ (tone-changed (d .tones) t (d .count) x y f within (omega arith) is p l ∙ ap (changed t f) (h .tones)));
+      bounds = λ i j hi hj apart. ap (λ bs. getD bs (pair-place i j) 0) bounds ∙ h .bounds i j hi hj apart;
+    }
+
+-- a tone as the code reads it
+pub tone-read : (d : Draft) (t : ℕ) (x : Tone) → t < d .count → getD (d .tones) t x ≡ getD (d .tones) t (getD (d .tones) t x)
+tone-read d t x within = let long = d .places in let few = d .few in getD-default (d .tones) t x (getD (d .tones) t x) (omega arith)

@@ -8,4 +8,3 @@ pub mod Parts
 pub mod Pitches
 pub mod Words
 pub mod Scanning
-pub mod Computed
