@@ -18,9 +18,9 @@ use Rattle.ratio.specs.declared.fault.RatioFault.{RatioFault}
 use Rattle.ratio.specs.declared.fault.RatioFault.the-variants.{ZeroPart, PartTooLarge, PrimeLeft}
 use Rattle.ratio.specs.Products.{product, primes, numerator, denominator}
 use Rattle.ratio.specs.Factors.{Misses, Without, Factored, minus}
-use Rattle.ratio.specs.Entry.{PartsFit, Quotient, HoldsOther, Entered}
+use Rattle.ratio.specs.Entry.{PartsFit, Quotient, Entered}
 use Rattle.ratio.specs.Computed.{times, powers, ratio-if, quotient-if, entry}
-use Rattle.ratio.proofs.Divides.{Prime, Distinct, primes-distinct}
+use Rattle.ratio.proofs.Divides.{Distinct, primes-distinct}
 use Rattle.ratio.proofs.Factoring.{misses-some, miss-power, miss-product}
 use Rattle.ratio.proofs.Multiplicities.{few-times}
 use Rattle.ratio.proofs.Lowest.{rests-same, quotient-is, numerator-less, denominator-less}
@@ -42,6 +42,7 @@ times-is (suc most) p (suc k) q n big e m le =
     cond-true (eqb (n % p) 0) (suc (times most p (n / p))) 0 (eq-eqb (n % p) 0 none)
     ∙ ap suc (times-is most p k q (n / p) big (div-eq-of-eq-mul-right some more) m (omega arith))
 
+-- no number within the limit has a prime 32 times
 few-powers : (p k q n : ℕ) → 1 < p → 0 < q → n ≡ p ^ k * q → n ≤ 4294967295 → k < 32
 few-powers p k q n big some e small =
     let power : 2 ^ k ≤ p ^ k = pow-le-pow-left big k in
@@ -76,6 +77,7 @@ differences-map : (f g : ℕ → ℕ) (ps : List ℕ) → map (λ p. pos (f p) -
 differences-map f g [] = refl
 differences-map f g (p ∷ ps) = ap (λ zs. (pos (f p) -ℤ pos (g p)) ∷ zs) (differences-map f g ps)
 
+-- the computed exponents are the differences of the multiplicities
 pub powers-are : (n d : ℕ) (xs ys : List ℕ) (u v : ℕ) → Factored n xs u → Factored d ys v → n ≤ 4294967295 → d ≤ 4294967295 → powers n d ≡ minus xs ys
 powers-are n d xs ys u v above below n-small d-small =
     let a = times-all primes xs u n primes-distinct (above .six) (above .left) (above .parts) n-small in
@@ -84,7 +86,8 @@ powers-are n d xs ys u v above below n-small d-small =
 
 -- ---- the answer
 
-ratio-if-entered : (n d : ℕ) (e : List ℤ) (six : length e ≡ 6) (above below : Bool) (n-fits : T above → numerator e ≤ 4294967295) (d-fits : T below → denominator e ≤ 4294967295)
+ratio-if-entered : (n d : ℕ) (e : List ℤ) (six : length e ≡ 6) (above below : Bool)
+    (n-fits : T above → numerator e ≤ 4294967295) (d-fits : T below → denominator e ≤ 4294967295)
     → above ≡ true → below ≡ true → PartsFit n d → Quotient n d e → Entered n d (ratio-if e six above below n-fits d-fits)
 ratio-if-entered n d e six true true n-fits d-fits a b fit is = (fit, is)
 ratio-if-entered n d e six true false n-fits d-fits a b fit is = absurd (false≢true b)
@@ -121,6 +124,7 @@ fit-entered n d fit =
     quotient-if-entered n d (a .0) (b .0) (a .1 .0) (b .1 .0) (a .1 .1) (b .1 .1) fit (powers n d) refl
     (powers-are n d (a .0) (b .0) (a .1 .0) (b .1 .0) (a .1 .1) (b .1 .1) (fit .numerator-small) (fit .denominator-small))
 
+-- the computed answer is right
 pub entry-entered : (n d : ℕ) → Entered n d (entry n d)
 entry-entered zero d = inl refl
 entry-entered (suc n) zero = inr refl

@@ -22,13 +22,14 @@ times (suc most) p n = cond (eqb (n % p) 0) (suc (times most p (n / p))) 0
 abbrev pub powers : ℕ → ℕ → List ℤ
 powers n d = map (λ p. pos (times 32 p n) -ℤ pos (times 32 p d)) primes
 
--- the ratio with the exponents e, if the two tests hold, which say that its parts are within the limit
-abbrev pub ratio-if : (e : List ℤ) → length e ≡ 6 → (above below : Bool) → (T above → numerator e ≤ 4294967295) → (T below → denominator e ≤ 4294967295) → Result Ratio RatioFault
+-- the ratio with the exponents e, if two tests hold that its parts are within the limit (those of an n/d within it always are)
+abbrev pub ratio-if : (e : List ℤ) → length e ≡ 6 → (above below : Bool)
+    → (T above → numerator e ≤ 4294967295) → (T below → denominator e ≤ 4294967295) → Result Ratio RatioFault
 ratio-if e six true true n-fits d-fits = Ok (record { exponents = e; six = six; «numerator_fits» = n-fits tt; «denominator_fits» = d-fits tt })
 ratio-if e six true false n-fits d-fits = Err PrimeLeft
 ratio-if e six false below n-fits d-fits = Err PrimeLeft
 
--- the ratio with the exponents e, if it is n/d
+-- the ratio with the exponents e, if it is n/d, and else the fault that another prime is left
 abbrev pub quotient-if : ℕ → ℕ → (e : List ℤ) → length e ≡ 6 → Result Ratio RatioFault
 quotient-if n d e six =
     cond (eqb (n * denominator e) (d * numerator e)) (ratio-if e six (leb (numerator e) 4294967295) (leb (denominator e) 4294967295) lit≤ lit≤) (Err PrimeLeft)
