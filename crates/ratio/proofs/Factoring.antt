@@ -21,11 +21,11 @@ pub misses-some : (p n : ℕ) → Misses p n → 0 < n
 misses-some p zero m = absurd (m (zero-mod p))
 misses-some p (suc n) m = omega arith
 
-miss-power : {p : ℕ} → Prime p → (q : ℕ) → Misses p q → (k : ℕ) → Misses p (q ^ k)
+pub miss-power : {p : ℕ} → Prime p → (q : ℕ) → Misses p q → (k : ℕ) → Misses p (q ^ k)
 miss-power {p} prime q m zero = subst (Misses p) (sym (pow-zero q)) (misses-one prime)
 miss-power {p} prime q m (suc k) = subst (Misses p) (sym (pow-succ' q k)) (prime .miss-both q (q ^ k) m (miss-power prime q m k))
 
-miss-product : {p : ℕ} → Prime p → (ps ks : List ℕ) → All (Misses p) ps → Misses p (product ps ks)
+pub miss-product : {p : ℕ} → Prime p → (ps ks : List ℕ) → All (Misses p) ps → Misses p (product ps ks)
 miss-product prime [] ks m = misses-one prime
 miss-product prime (q ∷ ps) [] m = misses-one prime
 miss-product prime (q ∷ ps) (k ∷ ks) m = prime .miss-both (q ^ k) (product ps ks) (miss-power prime q (m .0) k) (miss-product prime ps ks (m .1))

@@ -10,3 +10,4 @@ pub mod Numerals
 pub mod Scans
 pub mod Entered
 pub mod Coprime
+pub mod Computed

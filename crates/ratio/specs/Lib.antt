@@ -1,6 +1,7 @@
 pub mod Products
 pub mod Faults
 pub mod Entry
+pub mod Computed
 pub mod Factors
 pub mod Printing
 pub mod Limits

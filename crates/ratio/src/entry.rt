@@ -4,6 +4,7 @@ ghost use mathlib.Core.Path.{_≡_};
 ghost use Prim.Native.Nat.{ℕ, _*_, _%_, _^_, _<_, _≤_};
 ghost use Rattle.std.specs.shelf.Lists.{All};
 ghost use Rattle.ratio.specs.Entry.{Entered};
+ghost use Rattle.ratio.specs.Computed.{entry};
 ghost use Rattle.ratio.specs.declared.fault.RatioFault.{RatioFault};
 ghost use Rattle.ratio.specs.declared.ratio.Ratio.{Ratio};
 ghost use Rattle.std.specs.declared.result.Result.{Result};
@@ -28,6 +29,7 @@ impl Ratio {
     pub fn new(numerator: u64, denominator: u64) -> Result<Ratio, RatioFault>
         ensures entered { λ r. ⌜ Entered numerator denominator r ⌝ }
         ensures only { λ r. ⌜ ((s : Result Ratio RatioFault) → Entered numerator denominator s → s ≡ r) ⌝ }
+        ensures value { λ r. ⌜ r ≡ entry numerator denominator ⌝ }
     {
         if numerator == 0 || denominator == 0 {
             return Err(RatioFault::ZeroPart);
