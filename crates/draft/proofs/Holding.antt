@@ -5,6 +5,9 @@ use Prim.Native.Nat.{ℕ, zero, suc, _+_, _<_, _≤_}
 use native.Mathlib.Omega.{arith}
 use lib.ListN.{length, getD, take, set, length-map}
 use Rattle.std.proofs.shelf.Lists.{length-take-le, take-more-set, map-append, getD-default}
+use Rattle.std.proofs.shelf.Maps.{nth-past}
+use Rattle.std.specs.shelf.Maps.{nth}
+use Rattle.std.specs.declared.option.Option.the-variants.{Some, None}
 use Rattle.ratio.specs.declared.ratio.Ratio.{Ratio}
 use Rattle.draft.specs.Book.{Noted, Book, candidates-of, changed}
 use Rattle.draft.specs.Held.{listed, noted, pair-place, Holds}
@@ -23,6 +26,12 @@ noted-at (z ∷ ts) t zero x h i is = absurd (omega arith)
 noted-at (z ∷ ts) zero (suc n) x h i is = ap listed (sym is)
 noted-at (z ∷ ts) (suc t) (suc n) x h i is = noted-at ts t n x (omega arith) (omega arith) is
 
+noted-nth : (ts : List Tone) (t n : ℕ) (x : Tone) → t < n → n ≤ length ts → x ≡ getD ts t x → nth (map noted (take n ts)) t ≡ Some (noted x)
+noted-nth [] t n x h i is = absurd (omega arith)
+noted-nth (z ∷ ts) t zero x h i is = absurd (omega arith)
+noted-nth (z ∷ ts) zero (suc n) x h i is = ap (λ w. Some (noted w)) (sym is)
+noted-nth (z ∷ ts) (suc t) (suc n) x h i is = noted-nth ts t n x (omega arith) (omega arith) is
+
 pub same-noted : (m n : Noted) → m .pitch ≡ n .pitch → m .candidates ≡ n .candidates → m ≡ n
 same-noted m n p q = λ i. record { pitch = p i; candidates = q i }
 
@@ -32,6 +41,16 @@ held-candidates d b h t x within is =
     let long = d .places in
     let few = d .few in
     ap (λ ns. getD (map (λ n. n .candidates) ns) t []) (sym (h .tones)) ∙ noted-at (d .tones) t (d .count) x within (omega arith) is
+
+-- a tone of the book, by its number
+pub held-tone : (d : Draft) (b : Book) → Holds d b → (t : ℕ) (x : Tone) → t < d .count → x ≡ getD (d .tones) t x → nth (b .tones) t ≡ Some (noted x)
+held-tone d b h t x within is =
+    let long = d .places in
+    let few = d .few in
+    ap (λ ns. nth ns t) (sym (h .tones)) ∙ noted-nth (d .tones) t (d .count) x within (omega arith) is
+
+pub held-none : (d : Draft) (b : Book) → Holds d b → (t : ℕ) → d .count ≤ t → nth (b .tones) t ≡ None
+held-none d b h t over = nth-past (b .tones) t (omega (arith, held-count d b h))
 
 -- one tone more
 pub tone-more : (ts : List Tone) (n : ℕ) (x : Tone) → n < length ts → map noted (take (n + 1) (set ts n x)) ≡ map noted (take n ts) ++ (noted x ∷ [])
