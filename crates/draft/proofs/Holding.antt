@@ -74,9 +74,9 @@ tone-replaced d d′ b h t x y f within is p l tones count bounds =
     let few = d .few in
     record {
       tones =
-        ap (λ n. map noted (take n (d′ .tones))) count
-        ∙ (ap (λ ts. map noted (take (d .count) ts)) tones
-        ∙ (tone-changed (d .tones) t (d .count) x y f within (omega arith) is p l ∙ ap (changed t f) (h .tones)));
+          ap (λ n. map noted (take n (d′ .tones))) count
+          ∙ (ap (λ ts. map noted (take (d .count) ts)) tones
+          ∙ (tone-changed (d .tones) t (d .count) x y f within (omega arith) is p l ∙ ap (changed t f) (h .tones)));
       bounds = λ i j hi hj apart. ap (λ bs. getD bs (pair-place i j) 0) bounds ∙ h .bounds i j hi hj apart;
     }
 

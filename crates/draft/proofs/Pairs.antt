@@ -62,11 +62,11 @@ pub place-once : (i j k l : ℕ) → i < 32 → j < 32 → k < 32 → l < 32 →
 place-once i j k l hi hj hk hl ij kl e =
     ⊎-elim
     (λ (same : max i j ≡ max k l).
-      let t = ap tri same in
-      let least : min i j ≡ min k l = omega (arith, place i j, place k l) in
-      ⊎-elim (λ (s : i ≡ k). inl (s, omega arith)) (λ (o : i ≡ k → ⊥). inr (omega arith, omega arith)) (cases-eq i k))
+    let t = ap tri same in
+    let least : min i j ≡ min k l = omega (arith, place i j, place k l) in
+    ⊎-elim (λ (s : i ≡ k). inl (s, omega arith)) (λ (o : i ≡ k → ⊥). inr (omega arith, omega arith)) (cases-eq i k))
     (λ (other : (max i j < max k l) ⊎ (max k l < max i j)).
-      ⊎-elim (λ u. let p = lower i j k l hi hj hk hl ij u in absurd (omega arith)) (λ u. let p = lower k l i j hk hl hi hj kl u in absurd (omega arith)) other)
+    ⊎-elim (λ u. let p = lower i j k l hi hj hk hl ij u in absurd (omega arith)) (λ u. let p = lower k l i j hk hl hi hj kl u in absurd (omega arith)) other)
     (cases-order (max i j) (max k l))
 
 pub place-either : (i j : ℕ) → pair-place i j ≡ pair-place j i
@@ -88,10 +88,10 @@ pub bound-written : (bounds : List ℕ) (t u x i j : ℕ) → length bounds ≡ 
 bound-written bounds t u x i j long ht hu tu hi hj ij =
     ⊎-elim
     (λ (same : pair-place i j ≡ pair-place t u).
-      let one : same-pair t u i j ≡ true = ⊎-elim (λ b. let p = b .0 in let q = b .1 in grind (arith, tells)) (λ b. let p = b .0 in let q = b .1 in grind (arith, tells)) (place-once i j t u hi hj ht hu ij tu same) in
-      let within = place-within t u ht hu tu in
-      ap (λ k. getD (set bounds (pair-place t u) x) k 0) same ∙ (getD-set-same bounds (pair-place t u) x 0 (omega arith) ∙ sym (cond-true (same-pair t u i j) x (getD bounds (pair-place i j) 0) one)))
+    let one : same-pair t u i j ≡ true = ⊎-elim (λ b. let p = b .0 in let q = b .1 in grind (arith, tells)) (λ b. let p = b .0 in let q = b .1 in grind (arith, tells)) (place-once i j t u hi hj ht hu ij tu same) in
+    let within = place-within t u ht hu tu in
+    ap (λ k. getD (set bounds (pair-place t u) x) k 0) same ∙ (getD-set-same bounds (pair-place t u) x 0 (omega arith) ∙ sym (cond-true (same-pair t u i j) x (getD bounds (pair-place i j) 0) one)))
     (λ (other : pair-place i j ≢ pair-place t u).
-      let none : same-pair t u i j ≡ false = ⊎-elim (λ h. absurd (other (same-place t u i j h))) (λ h. h) (cases-bool (same-pair t u i j)) in
-      getD-set-other bounds (pair-place t u) (pair-place i j) x 0 other ∙ sym (cond-false (same-pair t u i j) x (getD bounds (pair-place i j) 0) none))
+    let none : same-pair t u i j ≡ false = ⊎-elim (λ h. absurd (other (same-place t u i j h))) (λ h. h) (cases-bool (same-pair t u i j)) in
+    getD-set-other bounds (pair-place t u) (pair-place i j) x 0 other ∙ sym (cond-false (same-pair t u i j) x (getD bounds (pair-place i j) 0) none))
     (cases-eq (pair-place i j) (pair-place t u))

@@ -11,7 +11,6 @@ use Rattle.std.proofs.shelf.Edits.{getD-removed-below, getD-removed-above, leng
 use Rattle.std.proofs.shelf.Tests.{cases-lt, cases-eq}
 
 module _ {A : Type 0} where
-
   -- the places before `done` are seen: those after `gone` stand one place lower now
   pub record Moving (gone done : ℕ) (before now : List A) : Type 0 where
     pub long : length now ≡ length before
@@ -26,12 +25,12 @@ module _ {A : Type 0} where
         long = length-set now (done - 1) x ∙ long;
         below = λ j d h. let other : j ≢ done - 1 = omega arith in getD-set-other now (done - 1) j x d other ∙ m .below j d h;
         above = λ j d h i.
-          ⊎-elim
-          (λ (same : j ≡ done - 1).
+            ⊎-elim
+            (λ (same : j ≡ done - 1).
             let next : done ≡ j + 1 = omega arith in
             ap (λ k. getD (set now (done - 1) x) k d) same ∙ (getD-set-same now (done - 1) x d (omega arith) ∙ (getD-read before done x inside is d ∙ ap (λ k. getD before k d) next)))
-          (λ (other : j ≢ done - 1). getD-set-other now (done - 1) j x d other ∙ m .above j d h (omega arith))
-          (cases-eq j (done - 1))
+            (λ (other : j ≢ done - 1). getD-set-other now (done - 1) j x d other ∙ m .above j d h (omega arith))
+            (cases-eq j (done - 1));
       }
 
   pub not-moving : (gone done : ℕ) (before now : List A) → done ≤ gone → Moving gone done before now → Moving gone (done + 1) before now
@@ -47,10 +46,10 @@ module _ {A : Type 0} where
       let inside : gone < length (take n before) = omega arith in
       let shorter = length-removed (take n before) gone inside in
       same-lists _ _ (omega arith) (λ k d h.
-        let km : k < m = omega arith in
-        let kn : k < n = omega arith in
-        let kn₁ : k + 1 < n = omega arith in
-        ⊎-elim
-          (λ (u : k < gone). getD-take m now k d km ∙ move .below k d u ∙ sym (getD-take n before k d kn) ∙ sym (getD-removed-below (take n before) gone d k u inside))
-          (λ (u : gone ≤ k). getD-take m now k d km ∙ move .above k d u (omega arith) ∙ sym (getD-take n before (k + 1) d kn₁) ∙ sym (getD-removed-above (take n before) gone d k u inside))
-          (cases-lt k gone))
+      let km : k < m = omega arith in
+      let kn : k < n = omega arith in
+      let kn₁ : k + 1 < n = omega arith in
+      ⊎-elim
+      (λ (u : k < gone). getD-take m now k d km ∙ move .below k d u ∙ sym (getD-take n before k d kn) ∙ sym (getD-removed-below (take n before) gone d k u inside))
+      (λ (u : gone ≤ k). getD-take m now k d km ∙ move .above k d u (omega arith) ∙ sym (getD-take n before (k + 1) d kn₁) ∙ sym (getD-removed-above (take n before) gone d k u inside))
+      (cases-lt k gone))

@@ -2,11 +2,12 @@
 -- after another, and nothing else.
 use mathlib.Core.Bool.{Bool, true, false, cond, _&&_, _||_}
 use mathlib.Core.List.{List, [], _∷_, _++_, map}
-use Prim.Native.Nat.{ℕ, zero, suc}
+use mathlib.Core.Path.{_≡_}
+use Prim.Native.Nat.{ℕ, zero, suc, _≤_}
 use lib.Dec.{leb, ltb, eqb}
 use lib.IntN.{ℤ, natAbs}
 use lib.ListN.{length, getD}
-use Rattle.std.specs.shelf.Lists.{removed}
+use Rattle.std.specs.shelf.Lists.{All, removed}
 use Rattle.std.specs.declared.option.Option.{Option}
 use Rattle.std.specs.declared.option.Option.the-variants.{Some, None}
 use Rattle.std.specs.declared.result.Result.{Result}
@@ -96,3 +97,21 @@ fed b c = unless-refused (refusal b c) (entered b c) b
 abbrev pub answer : Option DraftFault → Result (Unit {0}) DraftFault
 answer None = Ok tt
 answer (Some f) = Err f
+
+-- the book after a list of calls
+abbrev pub after : Book → List Call → Book
+after b [] = b
+after b (c ∷ cs) = after (fed b c) cs
+
+-- the answers to a list of calls, each by the book as it stands then
+abbrev pub answers : Book → List Call → List (Result (Unit {0}) DraftFault)
+answers b [] = []
+answers b (c ∷ cs) = answer (refusal b c) ∷ answers (fed b c) cs
+
+-- what every book keeps: its limits, and that a bound is good both ways
+pub record Sound (b : Book) : Type 0 where
+  pub few-tones : length (b .tones) ≤ 32
+  pub pitches : All (λ n. natAbs (n .pitch) ≤ 12000000) (b .tones)
+  pub few-candidates : All (λ n. length (n .candidates) ≤ 8) (b .tones)
+  pub bounds : (i j : ℕ) → b .bound i j ≤ 1073741824
+  pub both-ways : (i j : ℕ) → b .bound i j ≡ b .bound j i

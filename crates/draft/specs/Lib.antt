@@ -3,3 +3,4 @@ pub mod Book
 pub mod Held
 pub mod Changes
 pub mod Reading
+pub mod Run

@@ -50,6 +50,10 @@ impl DraftFault {
             DraftFault::TonesFull => 22,
             DraftFault::CandidatesFull => 23,
         };
-        Refusal { layer: Layer::Draft, number, column }
+        Refusal {
+            layer: Layer::Draft,
+            number,
+            column,
+        }
     }
 }

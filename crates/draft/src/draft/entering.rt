@@ -46,7 +46,12 @@ impl Draft {
     /// One candidate more for a tone, after its others: the ratio `numerator / denominator`.
     ///
     /// Refuses what names no ratio, then a tone that is not there, then a ninth candidate.
-    pub fn try_ratio(&mut self, tone: usize, numerator: u64, denominator: u64) -> Result<(), DraftFault>
+    pub fn try_ratio(
+        &mut self,
+        tone: usize,
+        numerator: u64,
+        denominator: u64,
+    ) -> Result<(), DraftFault>
         ensures by_book { λ r. ⌜ ByBook (now (self .entry)) (now (self .exit)) (Try tone numerator denominator) r ⌝ }
     {
         let ratio = Ratio::new(numerator, denominator)?;

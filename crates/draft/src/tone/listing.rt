@@ -21,7 +21,11 @@ impl Tone {
         ensures pitch { λ r. ⌜ r .pitch ≡ pitch ⌝ }
         ensures listed { λ r. ⌜ listed r ≡ [] ⌝ }
     {
-        Tone { pitch, candidates: [Ratio::unison(); 8], count: 0 }
+        Tone {
+            pitch,
+            candidates: [Ratio::unison(); 8],
+            count: 0,
+        }
     }
 
     /// The tone's pitch, in thousandths of a cent.

@@ -21,13 +21,13 @@ returns-then-tone-self c =
     let t = c .args .tone in
     let u = c .args .other in
     let over : (d .count ≤ t) ⊎ (d .count ≤ u) = elim (c .then-tone-self .came) [
-      then-tone-self·by·then-tone-self w ↦ inl (w .if-tone-self .taken)
-    | then-tone-self·by·else-tone-self·then-other-self w ↦ inr (w .if-other-self .taken)
+      | then-tone-self·by·then-tone-self w ↦ inl (w .if-tone-self .taken)
+      | then-tone-self·by·else-tone-self·then-other-self w ↦ inr (w .if-other-self .taken)
     ] in
     record {
       by-book = refused-by d (Bound t u (c .args .bound)) NoTone (λ b h.
-        let same = held-count d b h in
-        bound-absent b t u (c .args .bound) (omega arith) (c .if-tone-other .left) (⊎-elim (λ (o : d .count ≤ t). inl (omega arith)) (λ (o : d .count ≤ u). inr (omega arith)) over));
+          let same = held-count d b h in
+          bound-absent b t u (c .args .bound) (omega arith) (c .if-tone-other .left) (⊎-elim (λ (o : d .count ≤ t). inl (omega arith)) (λ (o : d .count ≤ u). inr (omega arith)) over));
     }
 
 pub returns : need.returns
@@ -43,7 +43,7 @@ returns c =
       by-book = taken-by d _ (Bound t u x) (λ b h. bound-taken b t u x (omega arith) (c .if-tone-other .left) (omega (arith, held-count d b h)) (omega (arith, held-count d b h))) (λ b h. record {
         tones = h .tones;
         bounds = λ i j hi hj apart.
-          ap (λ p. getD (set (d .bounds) p x) (pair-place i j) 0) (c .place-of .ensures .place)
-          ∙ (bound-written (d .bounds) t u x i j (d .pairs) th uh (c .if-tone-other .left) hi hj apart ∙ ap (cond (same-pair t u i j) x) (h .bounds i j hi hj apart));
+            ap (λ p. getD (set (d .bounds) p x) (pair-place i j) 0) (c .place-of .ensures .place)
+            ∙ (bound-written (d .bounds) t u x i j (d .pairs) th uh (c .if-tone-other .left) hi hj apart ∙ ap (cond (same-pair t u i j) x) (h .bounds i j hi hj apart));
       });
     }

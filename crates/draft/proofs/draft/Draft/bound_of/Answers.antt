@@ -16,12 +16,12 @@ returns-then-tone-other c =
     let u = c .args .other in
     record {
       by-book = λ b h.
-        let same = held-count d b h in
-        elim (c .then-tone-other .came) [
-          then-tone-other·by·then-tone-other w ↦ sym (bound-same b t u (w .if-tone-other .taken))
-        | then-tone-other·by·else-tone-other·then-tone-self w ↦ sym (bound-absent b t u (inl (omega (arith, w .if-tone-self .taken))))
-        | then-tone-other·by·else-tone-other·else-tone-self·then-other-self w ↦ sym (bound-absent b t u (inr (omega (arith, w .if-other-self .taken))))
-        ];
+          let same = held-count d b h in
+          elim (c .then-tone-other .came) [
+            | then-tone-other·by·then-tone-other w ↦ sym (bound-same b t u (w .if-tone-other .taken))
+            | then-tone-other·by·else-tone-other·then-tone-self w ↦ sym (bound-absent b t u (inl (omega (arith, w .if-tone-self .taken))))
+            | then-tone-other·by·else-tone-other·else-tone-self·then-other-self w ↦ sym (bound-absent b t u (inr (omega (arith, w .if-other-self .taken))))
+          ];
     }
 
 pub returns : need.returns
@@ -32,7 +32,7 @@ returns c =
     let few = d .few in
     record {
       by-book = λ b h.
-        let same = held-count d b h in
-        ap (λ p. Some (getD (d .bounds) p 0)) (c .place-of .ensures .place)
-        ∙ (ap Some (h .bounds t u (omega arith) (omega arith) (c .if-tone-other .left)) ∙ sym (bound-there b t u (c .if-tone-other .left) (omega arith) (omega arith)));
+          let same = held-count d b h in
+          ap (λ p. Some (getD (d .bounds) p 0)) (c .place-of .ensures .place)
+          ∙ (ap Some (h .bounds t u (omega arith) (omega arith) (c .if-tone-other .left)) ∙ sym (bound-there b t u (c .if-tone-other .left) (omega arith) (omega arith)));
     }

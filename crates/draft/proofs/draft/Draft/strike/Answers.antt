@@ -30,7 +30,7 @@ returns-in-Break-strike c =
     let over = why .1 in
     record {
       by-book = subst (ByBook d d (Strike t k)) (sym is) (refused-by d (Strike t k) NoCandidate (λ b h.
-        strike-none b t k (omega (arith, held-count d b h)) (omega (arith, over, ap length (held-candidates d b h t x (c .if-tone-self .left) (tone-read d t _ (c .if-tone-self .left)))))));
+          strike-none b t k (omega (arith, held-count d b h)) (omega (arith, over, ap length (held-candidates d b h t x (c .if-tone-self .left) (tone-read d t _ (c .if-tone-self .left)))))));
     }
 
 pub returns : need.returns
@@ -44,6 +44,6 @@ returns c =
     let there = done .0 in
     record {
       by-book = taken-by d _ (Strike t k)
-        (λ b h. strike-taken b t k (omega (arith, held-count d b h)) (omega (arith, there, ap length (held-candidates d b h t x within (tone-read d t _ within)))))
-        (λ b h. tone-replaced d _ b h t x (c .strike .last .self) (λ cs. removed cs k) within (tone-read d t _ within) (done .1 .pitch) (done .1 .listed) refl refl refl);
+          (λ b h. strike-taken b t k (omega (arith, held-count d b h)) (omega (arith, there, ap length (held-candidates d b h t x within (tone-read d t _ within)))))
+          (λ b h. tone-replaced d _ b h t x (c .strike .last .self) (λ cs. removed cs k) within (tone-read d t _ within) (done .1 .pitch) (done .1 .listed) refl refl refl);
     }

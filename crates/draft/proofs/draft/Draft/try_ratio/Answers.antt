@@ -46,7 +46,7 @@ returns-in-Break-add c =
     let over = why .1 in
     record {
       by-book = subst (ByBook d d (Try t n m)) (sym (p .1 ∙ ap Err (p .2 ∙ why .0))) (refused-by d (Try t n m) CandidatesFull (λ b h.
-        try-full b t n m (c .in-Continue-ratio .ratio) (sym (c .in-Continue-ratio .ensures tt .value)) (omega (arith, held-count d b h)) (omega (arith, over, ap length (held-candidates d b h t x within (tone-read d t _ within))))));
+          try-full b t n m (c .in-Continue-ratio .ratio) (sym (c .in-Continue-ratio .ensures tt .value)) (omega (arith, held-count d b h)) (omega (arith, over, ap length (held-candidates d b h t x within (tone-read d t _ within))))));
     }
 
 pub returns : need.returns
@@ -64,6 +64,6 @@ returns c =
     let more = done .1 .listed ∙ ap (λ e. listed x ++ entered-ratio e) (sym value) in
     record {
       by-book = taken-by d _ (Try t n m)
-        (λ b h. try-taken b t n m r value (omega (arith, held-count d b h)) (omega (arith, room, ap length (held-candidates d b h t x within (tone-read d t _ within)))))
-        (λ b h. tone-replaced d _ b h t x (c .add .last .self) (λ cs. cs ++ entered-ratio (entry n m)) within (tone-read d t _ within) (done .1 .pitch) more refl refl refl);
+          (λ b h. try-taken b t n m r value (omega (arith, held-count d b h)) (omega (arith, room, ap length (held-candidates d b h t x within (tone-read d t _ within)))))
+          (λ b h. tone-replaced d _ b h t x (c .add .last .self) (λ cs. cs ++ entered-ratio (entry n m)) within (tone-read d t _ within) (done .1 .pitch) more refl refl refl);
     }

@@ -19,8 +19,8 @@ loop-place-again c =
     let inv = c .loop-place .inv in
     let Going : Tone → Type 0 = λ t. (t .pitch ≡ before .pitch) × (t .count ≡ before .count) × Moving (c .args .number) (c .loop-place .place + 1) (before .candidates) (t .candidates) in
     elim (c .if-place-number .came) [
-      then-place-number w ↦ subst Going (sym (w .self-is)) (inv .0, inv .1, subst (λ x. Moving (c .args .number) (c .loop-place .place + 1) (before .candidates) (set (c .loop-place .self .candidates) (c .loop-place .place - 1) x)) (c .ratio-item .is) (moving-on (c .args .number) (c .loop-place .place) (before .candidates) (c .loop-place .self .candidates) (c .ratio-item .result) (omega arith) (w .if-place-number .taken) (c .ratio-item .is) (inv .2)))
-    | else-place-number w ↦ subst Going (sym (w .self-is)) (inv .0, inv .1, not-moving (c .args .number) (c .loop-place .place) (before .candidates) (c .loop-place .self .candidates) (w .if-place-number .left) (inv .2))
+      | then-place-number w ↦ subst Going (sym (w .self-is)) (inv .0, inv .1, subst (λ x. Moving (c .args .number) (c .loop-place .place + 1) (before .candidates) (set (c .loop-place .self .candidates) (c .loop-place .place - 1) x)) (c .ratio-item .is) (moving-on (c .args .number) (c .loop-place .place) (before .candidates) (c .loop-place .self .candidates) (c .ratio-item .result) (omega arith) (w .if-place-number .taken) (c .ratio-item .is) (inv .2)))
+      | else-place-number w ↦ subst Going (sym (w .self-is)) (inv .0, inv .1, not-moving (c .args .number) (c .loop-place .place) (before .candidates) (c .loop-place .self .candidates) (w .if-place-number .left) (inv .2))
     ]
 
 pub sub-self : need.sub-self
