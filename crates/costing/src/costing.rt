@@ -7,8 +7,12 @@ ghost use Prim.Native.Nat.{ℕ};
 
 /// What a whole scale costs, by the distances in it.
 ///
-/// Values join in any order and grouping, and the value of no distances changes nothing. The comparison orders all
-/// values, no two of them alike, and no value is more than its joining with another.
+/// Its meaning is four things: `nil`, the value of no distances; `worth`, the value of a distance; `join`, two values as
+/// one; and `within`, whether a value is no more than another. The functions answer these, refuse nothing and change
+/// nothing.
+///
+/// Values join in any order and grouping, and `nil` adds nothing to a value. The comparison puts all values in one order,
+/// in which only equal values stand level, and no value is more than its joining with another.
 pub trait Costing {
     /// What costs are counted in.
     type Value: Copy;
