@@ -1,7 +1,7 @@
 //! What is done with a stack.
 
 ghost use mathlib.Core.Path.{_≡_};
-ghost use mathlib.Core.List.{List, []};
+ghost use mathlib.Core.List.{[]};
 ghost use lib.ListN.{length};
 ghost use Rattle.costing.specs.Stacks.{stacked, room, PutOn, TakenOff};
 use super::Stack;
@@ -38,24 +38,5 @@ impl<'a, V: Copy> Stack<'a, V> {
         }
         self.height -= 1;
         Some(self.slots[self.height])
-    }
-
-    /// The top value, or `None` where the stack holds nothing.
-    pub fn top(&self) -> Option<V>
-        ensures { λ r. ⌜ ((rest : List V) × TakenOff r (stacked (now (self .entry))) rest) ⌝ }
-    {
-        if self.height == 0 {
-            return None;
-        }
-        let slots: &[V] = self.slots;
-        let place = self.height - 1;
-        Some(slots[place])
-    }
-
-    /// How many values it holds.
-    pub fn height(&self) -> usize
-        ensures { λ r. ⌜ r ≡ length (stacked (now (self .entry))) ⌝ }
-    {
-        self.height
     }
 }
