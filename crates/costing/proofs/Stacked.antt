@@ -1,4 +1,4 @@
--- The last of a front of a list.
+-- The last of a front of a list, and a value put on a list and taken off again.
 use mathlib.Core.Path.{_≡_, _∙_, ap, sym}
 use mathlib.Core.List.{List, [], _∷_, _++_}
 use native.Mathlib.Omega.{arith}
@@ -9,6 +9,7 @@ use Rattle.std.specs.declared.option.Option.the-variants.{Some, None}
 use Rattle.std.proofs.shelf.Lists.{take-more, length-push, same-from-push}
 use Rattle.costing.specs.Stacks.{TakenOff}
 
+-- a front that is not empty ends with the value at its last place
 pub front-last : {V : Type 0} (xs : List V) (n : ℕ) (v : V) → 0 < n → n ≤ length xs → v ≡ getD xs (n - 1) v → take n xs ≡ take (n - 1) xs ++ (v ∷ [])
 front-last xs n v some within read =
     let back : n - 1 + 1 ≡ n = omega arith in

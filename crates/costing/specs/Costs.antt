@@ -10,9 +10,9 @@ abbrev pub added : ℕ → ℕ → ℕ
 added a b = max (max a b) (min (a + b) (2 ^ 64 - 1))
 
 -- the larger of the first numbers, and the second numbers added
-abbrev pub both-joined : ℕ × ℕ → ℕ × ℕ → ℕ × ℕ
-both-joined a b = (max (a .0) (b .0), added (a .1) (b .1))
+abbrev pub pair-joined : ℕ × ℕ → ℕ × ℕ → ℕ × ℕ
+pair-joined a b = (max (a .0) (b .0), added (a .1) (b .1))
 
--- by the first numbers, and where these are equal by the second
-abbrev pub before : ℕ × ℕ → ℕ × ℕ → Bool
-before a b = ltb (a .0) (b .0) || (eqb (a .0) (b .0) && leb (a .1) (b .1))
+-- whether the first pair is no more: by the first numbers, and where these are equal by the second
+abbrev pub pair-within : ℕ × ℕ → ℕ × ℕ → Bool
+pair-within a b = ltb (a .0) (b .0) || (eqb (a .0) (b .0) && leb (a .1) (b .1))

@@ -2,7 +2,7 @@
 
 ghost use mathlib.Core.Path.{_≡_};
 ghost use Prim.Native.Nat.{_+_, _-_, _^_, min};
-ghost use Rattle.costing.specs.Costs.{both-joined, before};
+ghost use Rattle.costing.specs.Costs.{pair-joined, pair-within};
 use crate::costing::Costing;
 use crate::total::Total;
 use crate::total::TotalCosting;
@@ -20,9 +20,9 @@ pub impl Costing for WorstThenTotal as WorstThenTotalCosting {
 
     ghost worth = { λ distance. (distance, distance) };
 
-    ghost join = { both-joined };
+    ghost join = { pair-joined };
 
-    ghost within = { before };
+    ghost within = { pair-within };
 
     fn nothing(&self) -> (u64, u64) {
         (Worst.nothing(), Total.nothing())
@@ -34,7 +34,7 @@ pub impl Costing for WorstThenTotal as WorstThenTotalCosting {
 
     /// The larger of the largest distances, and the sum, which stops at the largest number of 64 bits.
     fn joined(&self, a: (u64, u64), b: (u64, u64)) -> (u64, u64)
-        ensures value { λ r. ⌜ r ≡ both-joined a b ⌝ }
+        ensures value { λ r. ⌜ r ≡ pair-joined a b ⌝ }
         ensures stopped { λ r. ⌜ r .1 ≡ min (a .1 + b .1) (2 ^ 64 - 1) ⌝ }
     {
         (Worst.joined(a.0, b.0), Total.joined(a.1, b.1))
