@@ -1,0 +1,2 @@
+mod Figures
+pub mod Listed
