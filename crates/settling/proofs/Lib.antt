@@ -1,2 +1,4 @@
 mod Figures
 pub mod Listed
+pub mod Order
+pub mod Kept
