@@ -2,3 +2,5 @@ mod Figures
 pub mod Listed
 pub mod Order
 pub mod Kept
+pub mod Live
+pub mod Explore
