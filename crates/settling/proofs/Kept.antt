@@ -15,15 +15,15 @@ use Rattle.settling.proofs.Listed.{all-true, true-all, all-below, all-pairs, p
 
 -- ---- folds
 
-folded-append : {A B : Type 0} (f : B → A → B) (b : B) (xs ys : List A) → folded f b (xs ++ ys) ≡ folded f (folded f b xs) ys
+pub folded-append : {A B : Type 0} (f : B → A → B) (b : B) (xs ys : List A) → folded f b (xs ++ ys) ≡ folded f (folded f b xs) ys
 folded-append f b [] ys = refl
 folded-append f b (x ∷ xs) ys = folded-append f (f b x) xs ys
 
-folded-map : {A B C : Type 0} (f : B → A → B) (g : C → A) (b : B) (zs : List C) → folded f b (map g zs) ≡ folded (λ b z. f b (g z)) b zs
+pub folded-map : {A B C : Type 0} (f : B → A → B) (g : C → A) (b : B) (zs : List C) → folded f b (map g zs) ≡ folded (λ b z. f b (g z)) b zs
 folded-map f g b [] = refl
 folded-map f g b (z ∷ zs) = folded-map f g (f b (g z)) zs
 
-folded-same : {A B : Type 0} (f g : B → A → B) (b : B) (xs : List A) → All (λ x. (b : B) → f b x ≡ g b x) xs → folded f b xs ≡ folded g b xs
+pub folded-same : {A B : Type 0} (f g : B → A → B) (b : B) (xs : List A) → All (λ x. (b : B) → f b x ≡ g b x) xs → folded f b xs ≡ folded g b xs
 folded-same f g b [] h = refl
 folded-same f g b (x ∷ xs) h = ap (λ z. folded f z xs) (h .0 b) ∙ folded-same f g (g b x) xs (h .1)
 

@@ -4,3 +4,5 @@ pub mod Order
 pub mod Kept
 pub mod Live
 pub mod Explore
+pub mod Rows
+pub mod Steps
