@@ -6,3 +6,4 @@ pub mod Live
 pub mod Explore
 pub mod Rows
 pub mod Steps
+pub mod Covered
