@@ -7,3 +7,4 @@ pub mod Explore
 pub mod Rows
 pub mod Steps
 pub mod Covered
+pub mod Explored
