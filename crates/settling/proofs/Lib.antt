@@ -8,3 +8,5 @@ pub mod Rows
 pub mod Steps
 pub mod Covered
 pub mod Explored
+pub mod Ordered
+pub mod Costings
