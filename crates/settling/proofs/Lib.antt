@@ -10,3 +10,4 @@ pub mod Covered
 pub mod Explored
 pub mod Ordered
 pub mod Costings
+pub mod Graef
