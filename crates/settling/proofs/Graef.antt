@@ -5,7 +5,7 @@ use mathlib.Core.Logic.{_⊎_, inl, inr, ⊎-elim}
 use mathlib.Core.Bool.{Bool, true, false, cond}
 use Prim.Native.Nat.{ℕ, zero, suc, _+_, _-_, _*_, _^_, _<_, _≤_}
 use native.Mathlib.Omega.{arith}
-use native.Mathlib.Nat.{mul-le-mul-right, mul-pos}
+use native.Mathlib.Nat.{mul-le-mul-right, le-of-mul-le-mul-right, mul-pos}
 use lib.ListN.{length, getD}
 use lib.Dec.{eqb, leb}
 use Rattle.std.specs.shelf.Lists.{All, Has, folded, sumBy}
@@ -63,6 +63,11 @@ pairs-few (suc n) h =
     let next : n + 1 ≡ suc n = omega arith in
     subst (λ m. length (pairs m) ≤ 32 * m) next
     (omega (arith, pairs-few n (omega arith), ap length (pairs-more n), length-append (pairs n) (map (λ i. (i, n)) (below n)), length-map {B = ℕ × ℕ} (below n) (λ i. (i, n)), length-counting 0 n))
+
+no-pairs : (n : ℕ) → n < 2 → length (pairs n) ≡ 0
+no-pairs zero h = refl
+no-pairs (suc zero) h = refl
+no-pairs (suc (suc n)) h = absurd (omega arith)
 
 -- a sum that stays below the limit is not stopped
 folded-total : {A : Type 0} (f : A → ℕ) (v : ℕ) (xs : List A) → v + sumBy f xs < 2 ^ 64 → folded (λ v x. stopped-sum v (f x)) v xs ≡ v + sumBy f xs
@@ -158,3 +163,64 @@ module _ {R : Type 0} (p : Problem R) (none : R) where
       (λ i j h l. let h′ : i < length s = omega arith in
       let e = length-pitches s in
       subst (λ d. d ≤ p .bound i j) (λ x. p .distance (pitch-at s i h′ x) (pitch-at s j l x)) (a .near i j (omega arith) (omega arith) (λ is. omega arith)))
+
+-- ---- the average distance
+
+module _ {R : Type 0} (p : Problem R) (none : R) (sym-p : Symmetric p) where
+  pub spread-pairs : (s : List ℕ) → spread p none (pitches p none s) ≡ 2 * sumBy (λ (i, j). apart p none s i j) (pairs (length s))
+  spread-pairs s =
+      let d : ℕ → ℕ → ℕ = λ i j. p .distance (getD (pitches p none s) i none) (getD (pitches p none s) j none) in
+      let both : square d (length s) ≡ 2 * sumBy (λ (i, j). d i j) (pairs (length s)) = square-pairs d (λ i j. sym-p .distances (getD (pitches p none s) i none) (getD (pitches p none s) j none)) (length s) in
+      let laid-so : sumBy (λ (i, j). d i j) (pairs (length s)) ≡ sumBy (λ (i, j). apart p none s i j) (pairs (length s)) = sumBy-each (λ (i, j). d i j) (λ (i, j). apart p none s i j) (pairs (length s)) (all-pairs (λ (i, j). d i j ≡ apart p none s i j) (length s) (λ i j h l. let h′ : i < length s = omega arith in λ x. p .distance (pitch-at p none s i h′ x) (pitch-at p none s j l x))) in
+      ap (square d) (length-pitches p none s) ∙ both ∙ ap (λ n. 2 * n) laid-so
+
+  -- with at most 32 tones and distances of at most 2^30 no sum reaches the limit
+  module _ (near : (x y : R) → p .distance x y ≤ 2 ^ 30) where
+    pub cost-total : (s : List ℕ) → length s ≤ 32 → cost p none total s ≡ sumBy (λ (i, j). apart p none s i j) (pairs (length s))
+    cost-total s few =
+        let most = sumBy-le (λ (i, j). apart p none s i j) (2 ^ 30) (pairs (length s)) (all-pairs (λ (i, j). apart p none s i j ≤ 2 ^ 30) (length s) (λ i j h l. near (laid p none s i) (laid p none s j))) in
+        let count = pairs-few (length s) few in
+        folded-total (λ (i, j). apart p none s i j) 0 (pairs (length s)) (omega arith) ∙ omega arith
+
+    spread-cost : (s : List ℕ) → length s ≤ 32 → spread p none (pitches p none s) ≡ 2 * cost p none total s
+    spread-cost s few = spread-pairs s ∙ ap (λ n. 2 * n) (sym (cost-total s few))
+
+    -- one choice costs no more than another exactly if the average distance of its scale is no more
+    pub no-more-no-wider : (s t : List ℕ) → length s ≡ length t → length s ≤ 32 → total .no-more (cost p none total s) (cost p none total t) ≡ true → NoWider p none (pitches p none s) (pitches p none t)
+    no-more-no-wider s t e few h =
+        let n = length s * (length s - 1) in
+        let less : spread p none (pitches p none s) ≤ spread p none (pitches p none t) = omega (arith, leb-true (cost p none total s) (cost p none total t) h, spread-cost s few, spread-cost t (omega arith)) in
+        let ps : length (pitches p none s) * (length (pitches p none s) - 1) ≡ n = ap (λ k. k * (k - 1)) (length-pitches p none s) in
+        let pt : length (pitches p none t) * (length (pitches p none t) - 1) ≡ n = ap (λ k. k * (k - 1)) (length-pitches p none t ∙ sym e) in
+        subst (λ k. spread p none (pitches p none s) * k ≤ spread p none (pitches p none t) * (length (pitches p none s) * (length (pitches p none s) - 1))) (sym pt)
+        (subst (λ k. spread p none (pitches p none s) * n ≤ spread p none (pitches p none t) * k) (sym ps) (mul-le-mul-right n less))
+
+    pub no-wider-no-more : (s t : List ℕ) → length s ≡ length t → length s ≤ 32 → NoWider p none (pitches p none s) (pitches p none t) → total .no-more (cost p none total s) (cost p none total t) ≡ true
+    no-wider-no-more s t e few h =
+        let n = length s * (length s - 1) in
+        let ps : length (pitches p none s) * (length (pitches p none s) - 1) ≡ n = ap (λ k. k * (k - 1)) (length-pitches p none s) in
+        let pt : length (pitches p none t) * (length (pitches p none t) - 1) ≡ n = ap (λ k. k * (k - 1)) (length-pitches p none t ∙ sym e) in
+        let crossed : spread p none (pitches p none s) * n ≤ spread p none (pitches p none t) * n = subst (λ k. spread p none (pitches p none s) * n ≤ spread p none (pitches p none t) * k) ps (subst (λ k. spread p none (pitches p none s) * k ≤ spread p none (pitches p none t) * (length (pitches p none s) * (length (pitches p none s) - 1))) pt h) in
+        le-leb (cost p none total s) (cost p none total t)
+        (⊎-elim
+        (λ (one : length s < 2). let count : length (pairs (length s)) ≡ 0 = no-pairs (length s) one in
+        let most = sumBy-le (λ (i, j). apart p none s i j) (2 ^ 30) (pairs (length s)) (all-pairs (λ (i, j). apart p none s i j ≤ 2 ^ 30) (length s) (λ i j h l. near (laid p none s i) (laid p none s j))) in
+        let is = cost-total s few in omega arith)
+        (λ (many : 2 ≤ length s).
+        let some : 0 < n = mul-pos {m = length s} {n = length s - 1} (omega arith) (omega arith) in
+        let less = le-of-mul-le-mul-right {m = spread p none (pitches p none s)} {n = spread p none (pitches p none t)} {k = n} crossed some in
+        omega (arith, less, spread-cost s few, spread-cost t (omega arith)))
+        (cases-lt (length s) 2))
+
+    -- the best choice by the sum of the distances lays an admissible scale, and no admissible scale has a lower average distance
+    pub best-scale : (s : List ℕ) → length (p .candidates) ≤ 32 → Best p none total s → Admissible p none (pitches p none s) × ((xs : List R) → Admissible p none xs → NoWider p none (pitches p none s) xs)
+    best-scale s few b = (
+      keeps-admissible p none sym-p s (b .choice) (b .kept),
+      λ xs a.
+          let found = scale-choice p none xs (a .scale) in
+          let t = found .0 in
+          let kept = admissible-keeps p none t (subst (Admissible p none) (sym (found .2)) a) in
+          let es = b .choice .full in
+          let et = found .1 .full in
+          subst (NoWider p none (pitches p none s)) (found .2) (no-more-no-wider s t (es ∙ sym et) (omega arith) (b .cheapest t (found .1) kept)),
+    )
