@@ -14,7 +14,7 @@ use Rattle.settling.specs.Settling.{Costing, Lawful, Problem, Choice, before, 
 use Rattle.settling.proofs.Order.{before-append, before-from-take, before-push, before-push-cases}
 use Rattle.settling.proofs.Kept.{keeps-front, cost-grows}
 use Rattle.settling.proofs.Live.{Barred, live-free, live-from}
-use Rattle.settling.proofs.Explore.{beaten}
+use Rattle.settling.specs.Explore.{beaten}
 
 -- The first numbers of t come before s.
 abbrev pub Passed : List ℕ → List ℕ → Type 0

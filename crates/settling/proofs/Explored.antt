@@ -18,7 +18,8 @@ use Rattle.settling.specs.Settling.{Costing, Lawful, Problem, Choice, choices,
 use Rattle.settling.proofs.Listed.{all-below, below-more, choice-push, sumBy-same, sumBy-both, sum-choices-push}
 use Rattle.settling.proofs.Kept.{folded-map, folded-same, laid-front, keeps-front, keeps-push, keeps-last, cost-push}
 use Rattle.settling.proofs.Live.{live-keeps, dead-under}
-use Rattle.settling.proofs.Explore.{Found, counted, next, beaten, numbered, row, explore, step, explore-beaten, explore-end, explore-tone}
+use Rattle.settling.specs.Explore.{Found, counted, next, beaten, numbered, row, explore, step}
+use Rattle.settling.proofs.Explore.{explore-beaten, explore-end, explore-tone}
 use Rattle.settling.proofs.Rows.{row-rowed, row-broken}
 use Rattle.settling.proofs.Covered.{Passed, Under, Through, Upto, BestOf, Right, right-same, passed-upto, upto-passed, through-upto, upto-through, under-push, beaten-dead, unbeaten-live, beaten-through, leaf-through}
 

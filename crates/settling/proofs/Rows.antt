@@ -12,7 +12,7 @@ use Rattle.std.specs.shelf.Lists.{folded}
 use Rattle.std.proofs.shelf.Lists.{drop-more, drop-all}
 use Rattle.std.proofs.shelf.Tests.{cond-true, cond-false, le-leb, lt-leb, leb-true, leb-false}
 use Rattle.settling.specs.Settling.{Costing, Problem}
-use Rattle.settling.proofs.Explore.{next, paired, row}
+use Rattle.settling.specs.Explore.{next, paired, row}
 
 module _ {R V : Type 0} (p : Problem R) (c : Costing V) where
   -- ---- one pair: b is its bound, d its distance, u the value of that and w the cost with it

@@ -14,7 +14,8 @@ use Rattle.std.proofs.shelf.Sums.{folded-more}
 use Rattle.std.proofs.shelf.Tests.{cases-bool}
 use Rattle.settling.specs.Settling.{Costing, Problem}
 use Rattle.settling.proofs.Kept.{folded-append}
-use Rattle.settling.proofs.Explore.{Found, counted, next, beaten, numbered, row, explore, step, explore-beaten, explore-end, explore-tone}
+use Rattle.settling.specs.Explore.{Found, counted, next, beaten, numbered, row, explore, step}
+use Rattle.settling.proofs.Explore.{explore-beaten, explore-end, explore-tone}
 
 pub length-numbered : {R : Type 0} (n : ℕ) (xs : List R) → length (numbered n xs) ≡ length xs
 length-numbered n [] = refl

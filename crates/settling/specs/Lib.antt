@@ -1,3 +1,4 @@
 pub mod Settling
 pub mod Costings
 pub mod Graef
+pub mod Explore
