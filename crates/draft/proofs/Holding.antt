@@ -3,14 +3,16 @@ use mathlib.Core.Path.{_≡_, refl, sym, ap, subst, _∙_}
 use mathlib.Core.List.{List, [], _∷_, _++_, map}
 use Prim.Native.Nat.{ℕ, zero, suc, _+_, _<_, _≤_}
 use native.Mathlib.Omega.{arith}
-use lib.ListN.{length, getD, take, set, length-map}
+use lib.ListN.{length, getD, take, set, length-map, length-take}
+use Rattle.std.specs.Options.{mapped}
 use Rattle.std.proofs.shelf.Lists.{length-take-le, take-more-set, map-append, getD-default}
 use Rattle.std.proofs.shelf.Maps.{nth-past}
 use Rattle.std.specs.shelf.Maps.{nth}
 use Rattle.std.specs.declared.option.Option.the-variants.{Some, None}
 use Rattle.ratio.specs.declared.ratio.Ratio.{Ratio}
 use Rattle.draft.specs.Book.{Noted, Book, candidates-of, changed}
-use Rattle.draft.specs.Held.{listed, noted, pair-place, Holds}
+use Rattle.draft.specs.Held.{listed, noted, pair-place, Holds, book-of}
+use Rattle.draft.specs.Reading.{candidates-in}
 use Rattle.draft.specs.declared.draft.Draft.{Draft}
 use Rattle.draft.specs.declared.tone.Tone.{Tone}
 
@@ -83,3 +85,19 @@ tone-replaced d d′ b h t x y f within is p l tones count bounds =
 -- a tone as the code reads it
 pub tone-read : (d : Draft) (t : ℕ) (x : Tone) → t < d .count → getD (d .tones) t x ≡ getD (d .tones) t (getD (d .tones) t x)
 tone-read d t x within = let long = d .places in let few = d .few in getD-default (d .tones) t x (getD (d .tones) t x) (omega arith)
+
+pub held-book : (d : Draft) → Holds d (book-of d)
+held-book d = record { tones = refl; bounds = λ i j hi hj apart. refl }
+
+-- a tone that is read is there, and lists at most 8 candidates
+candidates-there : (ts : List Tone) (n t : ℕ) (cs : List Ratio) → n ≤ length ts → mapped (λ n. n .candidates) (nth (map noted (take n ts)) t) ≡ Some cs → (t < n) × (length cs ≤ 8)
+candidates-there ts zero t cs h e = absurd (let z : _≡_ {A = ℕ} 0 1 = cc in omega arith)
+candidates-there [] (suc n) t cs h e = absurd (omega arith)
+candidates-there (x ∷ ts) (suc n) zero cs h e =
+    let is : listed x ≡ cs = cc in
+    let few = x .few in
+    (omega arith, omega (arith, ap length is, length-take (x .count) (x .candidates)))
+candidates-there (x ∷ ts) (suc n) (suc t) cs h e = let r = candidates-there ts n t cs (omega arith) e in (omega (arith, r .0), r .1)
+
+pub read-there : (d : Draft) (t : ℕ) (cs : List Ratio) → candidates-in (book-of d) t ≡ Some cs → (t < d .count) × (length cs ≤ 8)
+read-there d t cs e = let long = d .places in let few = d .few in candidates-there (d .tones) (d .count) t cs (omega arith) e

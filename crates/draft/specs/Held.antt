@@ -34,6 +34,10 @@ pub record Holds (d : Draft) (b : Book) : Type 0 where
   pub tones : map noted (entered-tones d) ≡ b .tones
   pub bounds : (i j : ℕ) → i < 32 → j < 32 → (i ≡ j → ⊥) → getD (d .bounds) (pair-place i j) 0 ≡ b .bound i j
 
+-- the book that a draft holds by its own tables
+abbrev pub book-of : Draft → Book
+book-of d = record { tones = map noted (entered-tones d); bound = λ i j. getD (d .bounds) (pair-place i j) 0 }
+
 -- a call to a draft went by the book: for every book that the draft held, the answer is the book's and it now holds the
 -- book that was fed the call; a refusal leaves every field as it was
 pub record ByBook (before after : Draft) (call : Call) (r : Result (Unit {0}) DraftFault) : Type 0 where

@@ -11,3 +11,4 @@ pub mod Explored
 pub mod Ordered
 pub mod Costings
 pub mod Graef
+pub mod Descent

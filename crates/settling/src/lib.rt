@@ -1,1 +1,3 @@
-//! What it is to settle a scale, and a search that settles it: definitions and their laws, with no code.
+//! What it is to settle a scale, and the search that settles it.
+
+mod search;
