@@ -5,16 +5,18 @@ use mathlib.Core.Bool.{Bool, true, false, cond}
 use Prim.Native.Nat.{ℕ, zero, suc, _+_, _<_, _≤_}
 use native.Mathlib.Omega.{arith}
 use lib.ListN.{length, getD, take, drop, set}
+use Rattle.costing.specs.Stacks.{PutOn}
 use Rattle.std.specs.Options.{mapped}
 use Rattle.std.specs.declared.option.Option.{Option}
 use Rattle.std.specs.declared.option.Option.the-variants.{Some, None}
 use Rattle.std.specs.shelf.Lists.{folded}
 use Rattle.std.specs.shelf.Maps.{nth}
-use Rattle.std.proofs.shelf.Lists.{drop-all, take-take, take-set, take-more-set, length-take-le}
+use Rattle.std.proofs.shelf.Lists.{drop-all, take-take, take-set, take-more-set, length-take-le, getD-take, getD-default}
 use Rattle.draft.specs.Book.{Noted, Book}
 use Rattle.draft.proofs.Holding.{held-count, read-there}
 use Rattle.draft.specs.Held.{Holds, book-of}
-use Rattle.draft.specs.Reading.{candidates-in}
+use Rattle.draft.specs.Reading.{candidates-in, bound-in}
+use Rattle.draft.proofs.Reading.{bound-there}
 use Rattle.draft.specs.declared.draft.Draft.{Draft}
 use Rattle.ratio.specs.declared.ratio.Ratio.{Ratio}
 use Rattle.settling.specs.Explore.{Found, counted, beaten, numbered, row, explore, step}
@@ -56,13 +58,12 @@ pub record Trying {V : Type 0} (dist : Ratio → Ratio → ℕ) (c : Costing V) 
   pub size : room ≡ room₀
   pub unbeaten : (n : ℕ) → beaten c (seen n (entry .best) (entry .sheet)) v ≡ false
   pub finds : (b : Book) → Holds d b
-    → found (length (b .tones)) now ≡ folded (step (problem dist b) c (drop (k + 1) (rows b)) (take k (entry .laid)) (take k (entry .numbers)) v) (found (length (b .tones)) entry) (take number (numbered 0 cs))
+      → found (length (b .tones)) now ≡ folded (step (problem dist b) c (drop (k + 1) (rows b)) (take k (entry .laid)) (take k (entry .numbers)) v) (found (length (b .tones)) entry) (take number (numbered 0 cs))
 
 shorter : {A : Type 0} (k : ℕ) (xs ys : List A) → take (k + 1) xs ≡ take (k + 1) ys → take k xs ≡ take k ys
 shorter k xs ys e = sym (take-take k (k + 1) xs (omega arith)) ∙ (ap (take k) e ∙ take-take k (k + 1) ys (omega arith))
 
 module _ {V : Type 0} (dist : Ratio → Ratio → ℕ) (c : Costing V) (d : Draft) (allowance k : ℕ) (v : V) where
-
   -- ---- a start that is left at once, and one with every tone laid
 
   pub beaten-some : (s : Search V) (best : V) → s .best ≡ Some best → (n : ℕ) → beaten c (seen n (s .best) (s .sheet)) v ≡ c .no-more best v
@@ -86,18 +87,17 @@ module _ {V : Type 0} (dist : Ratio → Ratio → ℕ) (c : Costing V) (d : Draf
     numbers = refl;
     within = within;
     finds = λ b h.
-      let n : ℕ = length (b .tones) in
-      let past = no-row b k (none b h) in
-      let same : n ≡ k = omega (arith, past .1, held-count d b h) in
-      let end = explore-end (problem dist b) c (take k (s .laid)) (take k (s .numbers)) v (found n s) (unbeaten n) in
-      let here = ap (λ rest. explore (problem dist b) c rest (take k (s .laid)) (take k (s .numbers)) v (found n s)) (past .0) in
-      ap (λ m. record { best = Some (v, take m (s .numbers)); trials = s .trials }) same ∙ (sym end ∙ sym here);
+        let n : ℕ = length (b .tones) in
+        let past = no-row b k (none b h) in
+        let same : n ≡ k = omega (arith, past .1, held-count d b h) in
+        let end = explore-end (problem dist b) c (take k (s .laid)) (take k (s .numbers)) v (found n s) (unbeaten n) in
+        let here = ap (λ rest. explore (problem dist b) c rest (take k (s .laid)) (take k (s .numbers)) v (found n s)) (past .0) in
+        ap (λ m. record { best = Some (v, take m (s .numbers)); trials = s .trials }) same ∙ (sym end ∙ sym here);
   }
 
   -- ---- the candidates of the next tone, one after another
 
   module _ (cs : List Ratio) (read : (b : Book) → Holds d b → candidates-in b k ≡ Some cs) (entry : Search V) (stack₀ : List V) (room₀ : ℕ) where
-
     pub trying-start : ((n : ℕ) → beaten c (seen n (entry .best) (entry .sheet)) v ≡ false) → entry .trials ≤ allowance → Trying dist c d allowance k v cs 0 entry entry stack₀ stack₀ room₀ room₀
     trying-start unbeaten within = record { laid = refl; numbers = refl; within = within; stacked = refl; size = refl; unbeaten = unbeaten; finds = λ b h. refl }
 
@@ -106,20 +106,18 @@ module _ {V : Type 0} (dist : Ratio → Ratio → ℕ) (c : Costing V) (d : Draf
     whole b h = ap (λ rest. explore (problem dist b) c rest (take k (entry .laid)) (take k (entry .numbers)) v (found (length (b .tones)) entry)) (next-row b k cs (read b h))
 
     module _ (number : ℕ) (s : Search V) (stack : List V) (room : ℕ) (trying : Trying dist c d allowance k v cs number entry s stack₀ stack room₀ room) where
-
       pub trying-all : length cs ≤ number → Went dist c d allowance k v entry s
       trying-all over = record {
         laid = trying .laid;
         numbers = trying .numbers;
         within = trying .within;
         finds = λ b h.
-          let n : ℕ = length (b .tones) in
-          trying .finds b h
-          ∙ (stepped-all (problem dist b) c (drop (k + 1) (rows b)) (take k (entry .laid)) (take k (entry .numbers)) v (found n entry) cs number over (trying .unbeaten n) ∙ sym (whole b h));
+            let n : ℕ = length (b .tones) in
+            trying .finds b h
+            ∙ (stepped-all (problem dist b) c (drop (k + 1) (rows b)) (take k (entry .laid)) (take k (entry .numbers)) v (found n entry) cs number over (trying .unbeaten n) ∙ sym (whole b h));
       }
 
       module _ (x : Ratio) (listed : number < length cs) (is : x ≡ getD cs number x) where
-
         pub spent-now : s .trials ≡ allowance → Overspent dist c d allowance k v entry
         spent-now full b h =
             let n : ℕ = length (b .tones) in
@@ -145,15 +143,14 @@ module _ {V : Type 0} (dist : Ratio → Ratio → ℕ) (c : Costing V) (d : Draf
             size = trying .size;
             unbeaten = trying .unbeaten;
             finds = λ b h.
-              let n : ℕ = length (b .tones) in
-              let more : found n s′ ≡ counted (found n s) = cc (ap (λ o. seen n o (s′ .sheet)) best, ap (seen n (s .best)) sheet, trials) in
-              more ∙ stepped-none (problem dist b) c (drop (k + 1) (rows b)) (take k (entry .laid)) (take k (entry .numbers)) v (found n entry) (found n s) cs number x listed is (trying .finds b h) (laid-row b None (none b h));
+                let n : ℕ = length (b .tones) in
+                let more : found n s′ ≡ counted (found n s) = cc (ap (λ o. seen n o (s′ .sheet)) best, ap (seen n (s .best)) sheet, trials) in
+                more ∙ stepped-none (problem dist b) c (drop (k + 1) (rows b)) (take k (entry .laid)) (take k (entry .numbers)) v (found n entry) (found n s) cs number x listed is (trying .finds b h) (laid-row b None (none b h));
           }
 
           module _ (w : V) (kept : (b : Book) → Holds d b → row (problem dist b) c k x 0 (take k (s .laid)) v ≡ Some w)
               (s₁ : Search V) (laid₁ : s₁ .laid ≡ set (s .laid) k x) (numbers₁ : s₁ .numbers ≡ set (s .numbers) k number) (best₁ : s₁ .best ≡ s .best) (sheet₁ : s₁ .sheet ≡ s .sheet) (trials₁ : s₁ .trials ≡ s .trials + 1)
               (in-laid : k < length (s .laid)) (in-numbers : k < length (s .numbers)) where
-
             -- the search below the candidate, as the function has it
             child : (b : Book) → Holds d b
                 → searched dist c b (k + 1) w s₁ ≡ explore (problem dist b) c (drop (k + 1) (rows b)) (take k (entry .laid) ++ (x ∷ [])) (take k (entry .numbers) ++ (number ∷ [])) w (counted (found (length (b .tones)) s))
@@ -182,7 +179,35 @@ module _ {V : Type 0} (dist : Ratio → Ratio → ℕ) (c : Costing V) (d : Draf
               size = same-room ∙ trying .size;
               unbeaten = trying .unbeaten;
               finds = λ b h.
-                let n : ℕ = length (b .tones) in
-                went .finds b h
-                ∙ (child b h ∙ stepped-some (problem dist b) c (drop (k + 1) (rows b)) (take k (entry .laid)) (take k (entry .numbers)) v (found n entry) (found n s) cs number x w listed is (trying .finds b h) (laid-row b (Some w) (kept b h)));
+                  let n : ℕ = length (b .tones) in
+                  went .finds b h
+                  ∙ (child b h ∙ stepped-some (problem dist b) c (drop (k + 1) (rows b)) (take k (entry .laid)) (take k (entry .numbers)) v (found n entry) (found n s) cs number x w listed is (trying .finds b h) (laid-row b (Some w) (kept b h)));
             }
+
+-- ---- one pair
+
+-- the bound that is read is the book's
+pub bound-read : (d : Draft) (b : Book) → Holds d b → (e k x : ℕ) → e < k → k < d .count → Some x ≡ bound-in b e k → x ≡ b .bound e k
+bound-read d b h e k x less there is =
+    let same = held-count d b h in
+    let apart : e ≡ k → ⊥ = λ same. omega arith in
+    let at = bound-there b e k apart (omega arith) (omega arith) in
+    cc
+
+pub bound-some : (d : Draft) (b : Book) → Holds d b → (e k : ℕ) → e < k → k < d .count → _≡_ {A = Option ℕ} None (bound-in b e k) → ⊥
+bound-some d b h e k less there is =
+    let same = held-count d b h in
+    let apart : e ≡ k → ⊥ = λ same. omega arith in
+    let at = bound-there b e k apart (omega arith) (omega arith) in
+    let z : _≡_ {A = ℕ} 0 1 = cc in
+    omega arith
+
+pub laid-read : (laid : List Ratio) (e k : ℕ) (y : Ratio) → e < k → k ≤ length laid → getD laid e y ≡ getD (take k laid) e (getD laid e y)
+laid-read laid e k y less long = getD-default laid e y (getD laid e y) (omega arith) ∙ sym (getD-take k laid e (getD laid e y) less)
+
+-- ---- the stack
+
+-- there is room, so the value is put on
+pub pushed : {V : Type 0} (r : Bool) (n : ℕ) (v : V) (before after : List V) → PutOn r n v before after → length before < n → after ≡ before ++ (v ∷ [])
+pushed true n v before after put less = put
+pushed false n v before after put less = absurd (omega (arith, put .0))

@@ -53,10 +53,13 @@ pub(crate) fn descend<M: Measure, C: Costing>(
         let mut sum = cost;
         for earlier in 0..k {
             let apart = measure.distance(&search.laid[earlier], ratio);
-            match draft.bound_of(earlier, k) {
-                Some(bound) if apart <= bound => sum = costing.joined(sum, costing.of(apart)),
-                _ => continue 'candidates,
+            let Some(bound) = draft.bound_of(earlier, k) else {
+                continue 'candidates;
+            };
+            if apart > bound {
+                continue 'candidates;
             }
+            sum = costing.joined(sum, costing.of(apart));
         }
         search.laid[k] = *ratio;
         search.numbers[k] = number as u8;
