@@ -1,23 +1,40 @@
 //! The answer to a line.
 
-ghost use mathlib.Core.Path.{_≡_};
-ghost use Rattle.interval.specs.Answers.{Answered};
-ghost use Rattle.std.specs.Of.String.{string-bytes};
-ghost use Rattle.std.specs.Vec.{made};
+ghost use Rattle.interval.specs.Answers.{answer-text, Answered};
+ghost use Rattle.std.specs.declared.option.Option.the-variants.{Some};
 use crate::interval::Interval;
 use crate::interval::IntervalDisplay;
 use crate::name::named;
+use refusal::Refusal;
 use refusal::RefusalDisplay;
-use std::alloc::AllocError;
-use std::alloc::Global;
+use std::fmt;
 
-/// The answer to a line, without its byte 10: what the ratio that it names is worth, or the refusal. It fails only for
-/// want of memory.
-pub fn answer(heap: Global, line: &[u8]) -> Result<String, AllocError>
-    ensures answered { λ r. ⌜ made r (λ text. Answered (now (line .entry)) (string-bytes text)) ⌝ }
-{
-    match named(line) {
-        Ok(ratio) => Interval(ratio).to_string(heap),
-        Err(fault) => fault.refusal().to_string(heap),
+/// The answer to a line, written without its byte 10: what the ratio that it names is worth, or the refusal.
+#[derive(Clone, Copy)]
+pub enum Answer {
+    Worth(Interval),
+    Refused(Refusal),
+}
+
+impl Answer {
+    /// The answer to this line; every line has one.
+    pub fn to(line: &[u8]) -> Answer
+        ensures answered { λ r. ⌜ Answered (now (line .entry)) (answer-text r) ⌝ }
+    {
+        match named(line) {
+            Ok(ratio) => Answer::Worth(Interval(ratio)),
+            Err(fault) => Answer::Refused(fault.refusal()),
+        }
+    }
+}
+
+pub impl fmt::Display for Answer as AnswerDisplay {
+    ghost shown = { λ answer. Some (answer-text answer) };
+
+    fn fmt<W: fmt::Write>(&self, f: &mut fmt::Formatter<W>) -> fmt::Result {
+        match *self {
+            Answer::Worth(interval) => write!(f, "{interval}"),
+            Answer::Refused(refusal) => write!(f, "{refusal}"),
+        }
     }
 }

@@ -1,11 +1,11 @@
 //! Prints what ratios are worth: one ratio word a line in, one answer a line out.
 
+use interval::answer::AnswerDisplay;
 use interval::table::Table;
 use std::io;
 use std::io::Read;
 
 fn main(rt: LibcRuntime) -> io::Result<()> {
-    let heap = rt.alloc();
     let mut input = rt.stdin();
     let mut table = Table::new();
     let mut chunk = [0; 4096];
@@ -16,13 +16,13 @@ fn main(rt: LibcRuntime) -> io::Result<()> {
             break;
         }
         for byte in &chunk[0..count] {
-            if let Some(text) = table.hear(heap, *byte)? {
-                println!(rt, "{text}")?;
+            if let Some(answer) = table.hear(*byte) {
+                println!(rt, "{answer}")?;
             }
         }
     }
-    if let Some(text) = table.finish(heap)? {
-        println!(rt, "{text}")?;
+    if let Some(answer) = table.finish() {
+        println!(rt, "{answer}")?;
     }
     Ok(())
 }
