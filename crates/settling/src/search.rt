@@ -2,7 +2,7 @@
 
 use ratio::ratio::Ratio;
 
-mod descend;
+pub(crate) mod descend;
 
 /// The allowance of trials does not reach.
 #[derive(Clone, Copy)]
