@@ -1,4 +1,4 @@
--- Both costings by numbers keep the laws.
+-- The three costings keep the laws.
 use mathlib.Core.Path.{_≡_, refl, sym, ap, _∙_}
 use mathlib.Core.Logic.{_⊎_, inl, inr, ⊎-elim}
 use mathlib.Core.Bool.{true}
@@ -7,7 +7,10 @@ use native.Mathlib.Omega.{arith}
 use lib.Dec.{leb}
 use Rattle.std.proofs.shelf.Tests.{leb-true, le-leb, cases-lt}
 use Rattle.settling.specs.Settling.{Costing, Lawful}
-use Rattle.settling.specs.Costings.{stopped-sum, total, worst}
+use Rattle.costing.specs.Costs.{added, pair-joined, pair-within}
+use Rattle.costing.proofs.Added.{added-associative}
+use Rattle.std.proofs.shelf.Ways.{tells}
+use Rattle.settling.specs.Costings.{total, worst, worst-then-total}
 
 leb-transitive : (u v w : ℕ) → leb u v ≡ true → leb v w ≡ true → leb u w ≡ true
 leb-transitive u v w a b = le-leb u w (omega (arith, leb-true u v a, leb-true v w b))
@@ -18,62 +21,16 @@ leb-total u v = ⊎-elim (λ l. inl (le-leb u v (omega arith))) (λ l. inr (le-l
 leb-antisymmetric : (u v : ℕ) → leb u v ≡ true → leb v u ≡ true → u ≡ v
 leb-antisymmetric u v a b = omega (arith, leb-true u v a, leb-true v u b)
 
--- ---- a sum that stops at k
-
-abbrev stopped : ℕ → ℕ → ℕ → ℕ
-stopped k a b = max (max a b) (min (a + b) k)
-
-stopped-small : (k a b : ℕ) → a + b ≤ k → stopped k a b ≡ a + b
-stopped-small k a b h = omega arith
-
-stopped-large : (k a b : ℕ) → k ≤ a + b → stopped k a b ≡ max (max a b) k
-stopped-large k a b h = omega arith
-
-stopped-same : (k a b : ℕ) → stopped k a b ≡ stopped k b a
-stopped-same k a b = omega arith
-
-largest-small : (k a b w : ℕ) → a + b ≤ k → max (max (a + b) w) k ≡ max (max (max a b) w) k
-largest-small k a b w h = omega arith
-
-largest-large : (k n w : ℕ) → max (max (max n k) w) k ≡ max (max n w) k
-largest-large k n w = omega arith
-
-largest-turned : (u v w : ℕ) → max (max v w) u ≡ max (max u v) w
-largest-turned u v w = omega arith
-
--- three numbers that reach k
-three-large : (k u v w : ℕ) → k ≤ u + v + w → stopped k (stopped k u v) w ≡ max (max (max u v) w) k
-three-large k u v w h =
-    ⊎-elim
-    (λ (small : u + v < k). ap (λ n. stopped k n w) (stopped-small k u v (omega arith)) ∙ stopped-large k (u + v) w h ∙ largest-small k u v w (omega arith))
-    (λ (large : k ≤ u + v).
-    let is : stopped k u v ≡ max (max u v) k = stopped-large k u v large in
-    let n = max u v in
-    let reach : k ≤ max n k + w = omega arith in
-    ap (λ n. stopped k n w) is ∙ stopped-large k (max n k) w reach ∙ largest-large k n w)
-    (cases-lt (u + v) k)
-
-three-small : (k u v w : ℕ) → u + v + w < k → stopped k (stopped k u v) w ≡ u + v + w
-three-small k u v w h = ap (λ n. stopped k n w) (stopped-small k u v (omega arith)) ∙ stopped-small k (u + v) w (omega arith)
-
-stopped-associative : (k u v w : ℕ) → stopped k (stopped k u v) w ≡ stopped k u (stopped k v w)
-stopped-associative k u v w =
-    ⊎-elim
-    (λ (small : u + v + w < k). three-small k u v w small ∙ (let turn : u + v + w ≡ v + w + u = omega arith in turn) ∙ sym (three-small k v w u (omega arith)))
-    (λ (large : k ≤ u + v + w). three-large k u v w large ∙ ap (λ n. max n k) (sym (largest-turned u v w)) ∙ sym (three-large k v w u (omega arith)))
-    (cases-lt (u + v + w) k)
-    ∙ stopped-same k (stopped k v w) u
-
 pub total-lawful : Lawful total
 total-lawful = record {
-  associative = stopped-associative (2 ^ 64 - 1);
-  commutative = stopped-same (2 ^ 64 - 1);
+  associative = added-associative;
+  commutative = λ u v. omega arith;
   neutral = λ v. omega arith;
   reflexive = λ v. le-leb v v (omega arith);
   transitive = leb-transitive;
   total = leb-total;
   antisymmetric = leb-antisymmetric;
-  grows = λ v w. le-leb v (stopped-sum v w) (omega arith);
+  grows = λ v w. le-leb v (added v w) (omega arith);
 }
 
 pub worst-lawful : Lawful worst
@@ -88,6 +45,28 @@ worst-lawful = record {
   grows = λ v w. le-leb v (max v w) (omega arith);
 }
 
+pair-total : (u v : ℕ × ℕ) → (pair-within u v ≡ true) ⊎ (pair-within v u ≡ true)
+pair-total u v =
+    ⊎-elim (λ (less : u .0 < v .0). inl (grind (arith, tells)))
+    (λ (no-less : v .0 ≤ u .0).
+    ⊎-elim (λ (more : v .0 < u .0). inr (grind (arith, tells)))
+    (λ (no-more : u .0 ≤ v .0).
+    ⊎-elim (λ (below : u .1 < v .1). inl (grind (arith, tells))) (λ (above : v .1 ≤ u .1). inr (grind (arith, tells))) (cases-lt (u .1) (v .1)))
+    (cases-lt (v .0) (u .0)))
+    (cases-lt (u .0) (v .0))
+
+pub worst-then-total-lawful : Lawful worst-then-total
+worst-then-total-lawful = record {
+  associative = λ u v w. let first : max (max (u .0) (v .0)) (w .0) ≡ max (u .0) (max (v .0) (w .0)) = omega arith in let second = added-associative (u .1) (v .1) (w .1) in λ i. (first i, second i);
+  commutative = λ u v. let first : max (u .0) (v .0) ≡ max (v .0) (u .0) = omega arith in let second : added (u .1) (v .1) ≡ added (v .1) (u .1) = omega arith in λ i. (first i, second i);
+  neutral = λ v. let first : max 0 (v .0) ≡ v .0 = omega arith in let second : added 0 (v .1) ≡ v .1 = omega arith in λ i. (first i, second i);
+  reflexive = λ v. grind (arith, tells);
+  transitive = λ u v w a b. grind (arith, tells);
+  total = pair-total;
+  antisymmetric = λ u v a b. let first : u .0 ≡ v .0 = grind (arith, tells) in let second : u .1 ≡ v .1 = grind (arith, tells) in λ i. (first i, second i);
+  grows = λ v w. grind (arith, tells);
+}
+
 -- where the sum of two numbers is of 64 bits, it is not stopped
-pub sum-not-stopped : (a b : ℕ) → a + b < 2 ^ 64 → stopped-sum a b ≡ a + b
+pub sum-not-stopped : (a b : ℕ) → a + b < 2 ^ 64 → added a b ≡ a + b
 sum-not-stopped a b h = omega arith

@@ -15,8 +15,9 @@ use Rattle.std.proofs.shelf.Counted.{getD-map-counting, length-map-counting, le
 use Rattle.std.proofs.shelf.Sums.{sumBy-cons, sumBy-append, sumBy-push, sumBy-le}
 use Rattle.std.proofs.shelf.Tests.{cases-lt, cases-eq, cond-true, cond-false, eq-eqb, ne-eqb, leb-true, le-leb}
 use Rattle.settling.specs.Settling.{Problem, Choice, below, pairs, laid, apart, keeps, cost, Best}
-use Rattle.settling.specs.Costings.{stopped-sum, total}
-use Rattle.settling.specs.Graef.{Symmetric, Scale, Admissible, spread, NoWider, pitches}
+use Rattle.costing.specs.Costs.{added}
+use Rattle.settling.specs.Costings.{total}
+use Rattle.settling.specs.Graef.{Symmetric, Scale, Admissible, InGraefsWords, spread, NoWider, pitches}
 use Rattle.settling.proofs.Listed.{below-more, pairs-more, all-below, all-pairs, sumBy-map, sumBy-both}
 use Rattle.settling.proofs.Kept.{keeps-each, keeps-from}
 use Rattle.settling.proofs.Costings.{sum-not-stopped}
@@ -70,12 +71,12 @@ no-pairs (suc zero) h = refl
 no-pairs (suc (suc n)) h = absurd (omega arith)
 
 -- a sum that stays below the limit is not stopped
-folded-total : {A : Type 0} (f : A → ℕ) (v : ℕ) (xs : List A) → v + sumBy f xs < 2 ^ 64 → folded (λ v x. stopped-sum v (f x)) v xs ≡ v + sumBy f xs
+folded-total : {A : Type 0} (f : A → ℕ) (v : ℕ) (xs : List A) → v + sumBy f xs < 2 ^ 64 → folded (λ v x. added v (f x)) v xs ≡ v + sumBy f xs
 folded-total f v [] h = omega arith
 folded-total f v (x ∷ xs) h =
     let cons = sumBy-cons f x xs in
-    let one : stopped-sum v (f x) ≡ v + f x = sum-not-stopped v (f x) (omega arith) in
-    ap (λ u. folded (λ v x. stopped-sum v (f x)) u xs) one ∙ folded-total f (v + f x) xs (omega arith) ∙ omega arith
+    let one : added v (f x) ≡ v + f x = sum-not-stopped v (f x) (omega arith) in
+    ap (λ u. folded (λ v x. added v (f x)) u xs) one ∙ folded-total f (v + f x) xs (omega arith) ∙ omega arith
 
 -- ---- scales and choices
 
@@ -224,3 +225,12 @@ module _ {R : Type 0} (p : Problem R) (none : R) (sym-p : Symmetric p) where
           let et = found .1 .full in
           subst (NoWider p none (pitches p none s)) (found .2) (no-more-no-wider s t (es ∙ sym et) (omega arith) (b .cheapest t (found .1) kept)),
     )
+
+    pub in-graefs-words : length (p .candidates) ≤ 32 → InGraefsWords p none
+    in-graefs-words few = record {
+      admissible = keeps-admissible p none sym-p;
+      kept = λ s ch a. admissible-keeps p none s a;
+      scales = scale-choice p none;
+      closer = λ s t cs ct. no-more-no-wider s t (cs .full ∙ sym (ct .full)) (omega (arith, cs .full));
+      cheaper = λ s t cs ct. no-wider-no-more s t (cs .full ∙ sym (ct .full)) (omega (arith, cs .full));
+    }

@@ -1,4 +1,3 @@
-mod Figures
 pub mod Listed
 pub mod Order
 pub mod Kept

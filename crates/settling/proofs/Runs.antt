@@ -4,8 +4,13 @@ use mathlib.Core.List.{List, [], _∷_, _++_}
 use Prim.Native.Nat.{ℕ, _+_, _<_, _≤_, min}
 use native.Mathlib.Omega.{arith}
 use lib.ListN.{length, getD, take, drop, set}
-use Rattle.std.proofs.shelf.Lists.{take-more, take-more-set, drop-set-lt, drop-drop}
-use Rattle.draft.specs.Book.{Book, new-book}
+use Rattle.std.proofs.shelf.Lists.{take-more, take-more-set, drop-set-lt, drop-drop, length-map}
+use Rattle.draft.specs.Book.{Noted, Book, new-book, Sound}
+use Rattle.draft.proofs.Sound.{sound-new, sound-after}
+use Rattle.ratio.specs.Parts.{unison}
+use Rattle.settling.specs.Graef.{InGraefsWords}
+use Rattle.settling.specs.Posed.{problem}
+use Rattle.settling.proofs.Graef.{in-graefs-words}
 use Rattle.draft.specs.Held.{Holds, ByBook}
 use Rattle.draft.specs.declared.call.Call.{Call}
 use Rattle.draft.specs.declared.fault.DraftFault.{DraftFault}
@@ -26,6 +31,25 @@ use Rattle.settling.specs.declared.step.Step.{Step}
 pub after-more : (b : Book) (ss : List Step) (s : Step) → after b (ss ++ (s ∷ [])) ≡ stepped (after b ss) s
 after-more b [] s = refl
 after-more b (x ∷ ss) s = after-more (stepped b x) ss s
+
+stepped-sound : (b : Book) (s : Step) → Sound b → Sound (stepped b s)
+stepped-sound b (Enter call) h = sound-after b h (call ∷ [])
+stepped-sound b (Settle allowance) h = h
+
+sound-steps : (b : Book) → Sound b → (ss : List Step) → Sound (after b ss)
+sound-steps b h [] = h
+sound-steps b h (s ∷ ss) = sound-steps (stepped b s) (stepped-sound b s h) ss
+
+-- every run's book keeps what a book keeps
+pub sound-run : (ss : List Step) → Sound (after new-book ss)
+sound-run = sound-steps new-book sound-new
+
+pub graefs-run : (distance : Ratio → Ratio → ℕ) → ((x y : Ratio) → distance x y ≡ distance y x) → ((x y : Ratio) → distance x y ≤ 1073741824) → (ss : List Step)
+    → InGraefsWords (problem distance (after new-book ss)) unison
+graefs-run distance both bounded ss =
+    let b = after new-book ss in
+    let h = sound-run ss in
+    in-graefs-words (problem distance b) unison (record { distances = both; bounds = h .both-ways }) bounded (omega (arith, h .few-tones, length-map (b .tones) (λ (n : Noted). n .candidates)))
 
 module _ {V : Type 0} (distance : Ratio → Ratio → ℕ) (c : Costing V) (places : ℕ) where
   run-more : (b : Book) (ss : List Step) (es : List (Entry V)) (s : Step) (e : Entry V) (before last : List ℕ) → Run distance c places b ss es before last

@@ -1,12 +1,13 @@
 -- Gräf's words: a scale takes one pitch from the candidates of each tone, is admissible if all distances keep their bounds, and has an average distance.
 use mathlib.Core.Path.{_≡_}
 use mathlib.Core.List.{List, [], map}
-use mathlib.Core.Bool.{cond}
+use mathlib.Core.Bool.{true, cond}
 use Prim.Native.Nat.{ℕ, _-_, _*_, _<_, _≤_}
 use lib.ListN.{length, getD}
-use lib.Dec.{eqb}
+use lib.Dec.{leb, eqb}
 use Rattle.std.specs.shelf.Lists.{Has, sumBy}
-use Rattle.settling.specs.Settling.{Problem, below, laid}
+use Rattle.settling.specs.Costings.{total}
+use Rattle.settling.specs.Settling.{Problem, Choice, below, laid, keeps, cost}
 
 -- The distance of two pitches is the same both ways, and so is the bound of two tones.
 pub record Symmetric {R : Type 0} (p : Problem R) : Type 0 where
@@ -36,3 +37,12 @@ module _ {R : Type 0} (p : Problem R) (none : R) where
   -- The pitches that a choice lays.
   abbrev pub pitches : List ℕ → List R
   pitches s = map (laid p none s) (below (length s))
+
+-- What the bench settles, in these words: a choice keeps the bounds exactly if its scale is admissible, and by the sum of
+-- the distances it costs no more than another exactly if the average distance of its scale is no more.
+pub record InGraefsWords {R : Type 0} (p : Problem R) (none : R) : Type 0 where
+  pub admissible : (s : List ℕ) → Choice (p .candidates) s → keeps p none s ≡ true → Admissible p none (pitches p none s)
+  pub kept : (s : List ℕ) → Choice (p .candidates) s → Admissible p none (pitches p none s) → keeps p none s ≡ true
+  pub scales : (xs : List R) → Scale p none xs → (s : List ℕ) × Choice (p .candidates) s × (pitches p none s ≡ xs)
+  pub closer : (s t : List ℕ) → Choice (p .candidates) s → Choice (p .candidates) t → leb (cost p none total s) (cost p none total t) ≡ true → NoWider p none (pitches p none s) (pitches p none t)
+  pub cheaper : (s t : List ℕ) → Choice (p .candidates) s → Choice (p .candidates) t → NoWider p none (pitches p none s) (pitches p none t) → leb (cost p none total s) (cost p none total t) ≡ true

@@ -1,11 +1,13 @@
 //! A whole run: steps put one by one to a new draft.
 
-ghost use Prim.Native.Nat.{min};
+ghost use mathlib.Core.List.{List};
 ghost use lib.ListN.{length};
-ghost use Rattle.draft.specs.Book.{Book};
-ghost use Rattle.draft.specs.Held.{Holds};
-ghost use Rattle.settling.specs.Posed.{costing-by};
-ghost use Rattle.settling.specs.Run.{Stepped, Replayed};
+ghost use Rattle.draft.specs.Book.{new-book, Sound};
+ghost use Rattle.ratio.specs.Parts.{unison};
+ghost use Rattle.settling.specs.Graef.{InGraefsWords};
+ghost use Rattle.settling.specs.Posed.{problem, costing-by};
+ghost use Rattle.settling.specs.Run.{after, Stepped, Replayed};
+ghost use Rattle.settling.specs.declared.step.Step.{Step};
 use crate::settle::Sheet;
 use crate::settle::run::settle;
 use crate::step::Answer;
@@ -51,6 +53,8 @@ pub fn replay<M: Measure, C: Costing>(
     entries: &mut [Entry<C::Value>],
 ) -> Draft
     ensures replayed { λ r. ⌜ Replayed (M·Measure .dist (now (measure .entry))) (costing-by (C·Costing .nil) (C·Costing .worth) (C·Costing .join) (C·Costing .within)) (length (now (stack .entry))) (now (steps .entry)) (now (entries .entry)) (now (entries .exit)) (now (sheet .entry)) (now (sheet .exit)) r ⌝ }
+    ensures sound { λ _. ⌜ ((ss : List Step) → Sound (after new-book ss)) ⌝ }
+    ensures in_graefs_words { λ _. ⌜ ((ss : List Step) → InGraefsWords (problem (M·Measure .dist (now (measure .entry))) (after new-book ss)) unison) ⌝ }
 {
     let mut draft = Draft::new();
     let count = steps.len().min(entries.len());

@@ -2,7 +2,7 @@ use native.Mathlib.Omega.{arith}
 use borrow.Author.Needs.{needs}
 use lib.ListN.{length}
 use Rattle.settling.specs.Posed.{costing-by}
-use Rattle.settling.proofs.Runs.{begun-more, begun-all}
+use Rattle.settling.proofs.Runs.{begun-more, begun-all, sound-run, graefs-run}
 use Rattle.settling.proofs.replay.replay.Needs as need
 
 pub loop-number-again : need.loop-number-again
@@ -20,4 +20,6 @@ returns g c =
     let count = c .min-count .ensures in
     record {
       replayed = begun-all (g .M·Measure .dist (c .args .measure .now)) cst (length (c .args .stack .now)) (c .args .steps .now) (c .args .entries .now) (c .loop-number .entries) (c .args .sheet .now) (c .loop-number .sheet) (c .loop-number .number) (c .loop-number .draft) (omega arith) (c .loop-number .inv);
+      sound = sound-run;
+      in-graefs-words = graefs-run (g .M·Measure .dist (c .args .measure .now)) (g .M·Measure·met .both (c .args .measure .now)) (g .M·Measure·met .bounded (c .args .measure .now));
     }
