@@ -9,5 +9,5 @@ pub fn checked_figures() -> usize
     ensures hold { λ _. ⌜ AllHold figures ⌝ }
     ensures count { λ r. ⌜ r ≡ length figures ⌝ }
 {
-    5
+    12
 }
