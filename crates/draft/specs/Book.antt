@@ -103,11 +103,6 @@ abbrev pub after : Book → List Call → Book
 after b [] = b
 after b (c ∷ cs) = after (fed b c) cs
 
--- the answers to a list of calls, each by the book as it stands then
-abbrev pub answers : Book → List Call → List (Result (Unit {0}) DraftFault)
-answers b [] = []
-answers b (c ∷ cs) = answer (refusal b c) ∷ answers (fed b c) cs
-
 -- what every book keeps: its limits, and that a bound is good both ways
 pub record Sound (b : Book) : Type 0 where
   pub few-tones : length (b .tones) ≤ 32

@@ -3,4 +3,3 @@ pub mod Book
 pub mod Held
 pub mod Changes
 pub mod Reading
-pub mod Run

@@ -3,5 +3,5 @@
 pub mod call;
 pub mod draft;
 pub mod fault;
-pub mod replay;
+pub mod put;
 pub mod tone;
