@@ -1,6 +1,10 @@
 //! Settles small scales whose figures are known from outside, and prints the answer to each settling and the first
 //! three places of the sheet after it.
 
+ghost use mathlib.Core.Path.{_≡_};
+ghost use Rattle.draft.specs.declared.call.Call.the-variants.{Tone as ToneCall, Try};
+ghost use Rattle.settling.specs.declared.step.Step.the-variants.{Enter};
+ghost use Rattle.figures.specs.Triad.{triad-steps};
 use costing::costing::Costing;
 use costing::total::Total;
 use costing::total::TotalCosting;
@@ -96,14 +100,18 @@ where
 }
 
 /// The step that enters a tone.
-fn tone(pitch: i32) -> Step {
+fn tone(pitch: i32) -> Step
+    ensures { λ r. ⌜ r ≡ Enter (ToneCall pitch) ⌝ }
+{
     Step::Enter {
         call: Call::Tone { pitch },
     }
 }
 
 /// The step that enters a candidate of a tone.
-fn candidate(tone: usize, numerator: u64, denominator: u64) -> Step {
+fn candidate(tone: usize, numerator: u64, denominator: u64) -> Step
+    ensures { λ r. ⌜ r ≡ Enter (Try tone numerator denominator) ⌝ }
+{
     Step::Enter {
         call: Call::Try {
             tone,
@@ -114,7 +122,9 @@ fn candidate(tone: usize, numerator: u64, denominator: u64) -> Step {
 }
 
 /// A major triad with two thirds and two fifths to choose from, settled under one bound for all pairs.
-fn triad(bound: u64, allowance: u64) -> [Step; 10] {
+fn triad(bound: u64, allowance: u64) -> [Step; 10]
+    ensures { λ r. ⌜ r ≡ triad-steps bound allowance ⌝ }
+{
     [
         Step::Enter {
             call: Call::Level { bound },
