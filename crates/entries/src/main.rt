@@ -59,6 +59,25 @@ fn tones(rt: &LibcRuntime, draft: &mut Draft) -> io::Result<()> {
     println!(rt, "tones {count}")
 }
 
+/// Enters a candidate of a tone.
+fn try_ratio(
+    rt: &LibcRuntime,
+    draft: &mut Draft,
+    tone: usize,
+    numerator: u64,
+    denominator: u64,
+) -> io::Result<()> {
+    enter(
+        rt,
+        draft,
+        Call::Try {
+            tone,
+            numerator,
+            denominator,
+        },
+    )
+}
+
 /// Candidates: faults of the ratio first, then the tone, then the ninth; a strike in the middle.
 fn candidates(rt: &LibcRuntime, draft: &mut Draft) -> io::Result<()> {
     for (tone, numerator, denominator) in [
@@ -69,36 +88,12 @@ fn candidates(rt: &LibcRuntime, draft: &mut Draft) -> io::Result<()> {
         (32, 1, 1),
         (31, 34, 17),
     ] {
-        enter(
-            rt,
-            draft,
-            Call::Try {
-                tone,
-                numerator,
-                denominator,
-            },
-        )?;
+        try_ratio(rt, draft, tone, numerator, denominator)?;
     }
     for numerator in 1..11 {
-        enter(
-            rt,
-            draft,
-            Call::Try {
-                tone: 0,
-                numerator,
-                denominator: 1,
-            },
-        )?;
+        try_ratio(rt, draft, 0, numerator, 1)?;
     }
-    enter(
-        rt,
-        draft,
-        Call::Try {
-            tone: 0,
-            numerator: 0,
-            denominator: 1,
-        },
-    )?;
+    try_ratio(rt, draft, 0, 0, 1)?;
     enter(
         rt,
         draft,
@@ -111,21 +106,13 @@ fn candidates(rt: &LibcRuntime, draft: &mut Draft) -> io::Result<()> {
     for (tone, candidate) in [(0, 7), (32, 0), (1, 0), (0, 6), (0, 0)] {
         enter(rt, draft, Call::Strike { tone, candidate })?;
     }
-    enter(
-        rt,
-        draft,
-        Call::Try {
-            tone: 0,
-            numerator: 2,
-            denominator: 1,
-        },
-    )?;
+    try_ratio(rt, draft, 0, 2, 1)?;
     list(rt, draft, 0)?;
     list(rt, draft, 31)?;
     list(rt, draft, 32)
 }
 
-/// Bounds: their limit, one tone twice, both ways, level after bound and bound after level.
+/// Bounds: their limit, one tone twice, both ways.
 fn bounds(rt: &LibcRuntime, draft: &mut Draft) -> io::Result<()> {
     for (tone, other, bound) in [
         (0, 0, 1_073_741_825),
@@ -151,6 +138,11 @@ fn bounds(rt: &LibcRuntime, draft: &mut Draft) -> io::Result<()> {
     ] {
         show_bound(rt, draft, tone, other)?;
     }
+    Ok(())
+}
+
+/// Level after bound, its limit, and bound after level.
+fn levels(rt: &LibcRuntime, draft: &mut Draft) -> io::Result<()> {
     enter(
         rt,
         draft,
@@ -210,5 +202,6 @@ fn main(rt: LibcRuntime) -> io::Result<()> {
     show_bound(&rt, &draft, 0, 31)?;
     candidates(&rt, &mut draft)?;
     bounds(&rt, &mut draft)?;
+    levels(&rt, &mut draft)?;
     level_first(&rt)
 }
