@@ -10,23 +10,13 @@ use lib.ListN.{length, getD, set}
 use Rattle.std.proofs.shelf.Lists.{getD-set-same, getD-set-other}
 use Rattle.std.proofs.shelf.Tests.{and-parts, or-cases, eqb-true, cases-eq, cases-order, cases-bool, cond-true, cond-false}
 use Rattle.std.proofs.shelf.Ways.{tells}
+use Rattle.ratio.proofs.Divides.{below-at}
 use Rattle.draft.specs.Book.{same-pair}
 use Rattle.draft.specs.Held.{pair-place}
 
 -- the places before those of the pairs with the larger number m
 tri : ℕ → ℕ
 tri m = m * (m - 1) / 2
-
--- the test holds of each number below n
-abbrev below : ℕ → (ℕ → Bool) → Bool
-below zero t = true
-below (suc n) t = t n && below n t
-
-below-at : (n : ℕ) (t : ℕ → Bool) → below n t ≡ true → (k : ℕ) → k < n → t k ≡ true
-below-at zero t e k h = absurd (omega arith)
-below-at (suc n) t e k h =
-    let both = and-parts (t n) (below n t) e in
-    ⊎-elim (λ (same : k ≡ n). ap t same ∙ both .0) (λ (other : k ≡ n → ⊥). below-at n t (both .1) k (omega arith)) (cases-eq k n)
 
 tri-suc : (m : ℕ) → m < 32 → tri m + m ≡ tri (suc m)
 unfolding tri

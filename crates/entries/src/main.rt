@@ -112,6 +112,17 @@ fn candidates(rt: &LibcRuntime, draft: &mut Draft) -> io::Result<()> {
     list(rt, draft, 32)
 }
 
+/// Enters the bound of a pair of tones.
+fn put_bound(
+    rt: &LibcRuntime,
+    draft: &mut Draft,
+    tone: usize,
+    other: usize,
+    bound: u64,
+) -> io::Result<()> {
+    enter(rt, draft, Call::Bound { tone, other, bound })
+}
+
 /// Bounds: their limit, one tone twice, both ways.
 fn bounds(rt: &LibcRuntime, draft: &mut Draft) -> io::Result<()> {
     for (tone, other, bound) in [
@@ -123,7 +134,7 @@ fn bounds(rt: &LibcRuntime, draft: &mut Draft) -> io::Result<()> {
         (30, 31, 0),
         (31, 0, 1_073_741_824),
     ] {
-        enter(rt, draft, Call::Bound { tone, other, bound })?;
+        put_bound(rt, draft, tone, other, bound)?;
     }
     for (tone, other) in [
         (1, 3),
@@ -152,15 +163,7 @@ fn levels(rt: &LibcRuntime, draft: &mut Draft) -> io::Result<()> {
     )?;
     show_bound(rt, draft, 1, 3)?;
     enter(rt, draft, Call::Level { bound: 302_301 })?;
-    enter(
-        rt,
-        draft,
-        Call::Bound {
-            tone: 1,
-            other: 0,
-            bound: 7,
-        },
-    )?;
+    put_bound(rt, draft, 1, 0, 7)?;
     for (tone, other) in [(1, 3), (0, 1), (1, 0), (0, 2), (31, 30)] {
         show_bound(rt, draft, tone, other)?;
     }
@@ -172,26 +175,10 @@ fn level_first(rt: &LibcRuntime) -> io::Result<()> {
     let mut draft = Draft::new();
     enter(rt, &mut draft, Call::Level { bound: 5 })?;
     enter(rt, &mut draft, Call::Tone { pitch: 0 })?;
-    enter(
-        rt,
-        &mut draft,
-        Call::Bound {
-            tone: 0,
-            other: 1,
-            bound: 9,
-        },
-    )?;
+    put_bound(rt, &mut draft, 0, 1, 9)?;
     enter(rt, &mut draft, Call::Tone { pitch: 1 })?;
     show_bound(rt, &draft, 0, 1)?;
-    enter(
-        rt,
-        &mut draft,
-        Call::Bound {
-            tone: 0,
-            other: 1,
-            bound: 9,
-        },
-    )?;
+    put_bound(rt, &mut draft, 0, 1, 9)?;
     show_bound(rt, &draft, 1, 0)
 }
 

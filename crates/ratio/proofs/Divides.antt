@@ -21,11 +21,11 @@ pub record Prime (p : ℕ) : Type 0 where
 -- ---- a number is prime if no product of two remainders but 0 has the remainder 0
 
 -- the test holds of each number below n
-abbrev below : ℕ → (ℕ → Bool) → Bool
+abbrev pub below : ℕ → (ℕ → Bool) → Bool
 below zero t = true
 below (suc n) t = t n && below n t
 
-below-at : (n : ℕ) (t : ℕ → Bool) → below n t ≡ true → (k : ℕ) → k < n → t k ≡ true
+pub below-at : (n : ℕ) (t : ℕ → Bool) → below n t ≡ true → (k : ℕ) → k < n → t k ≡ true
 below-at zero t e k h = absurd (omega arith)
 below-at (suc n) t e k h =
     let both = and-parts (t n) (below n t) e in

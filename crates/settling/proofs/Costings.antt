@@ -21,29 +21,25 @@ leb-total u v = ⊎-elim (λ l. inl (le-leb u v (omega arith))) (λ l. inr (le-l
 leb-antisymmetric : (u v : ℕ) → leb u v ≡ true → leb v u ≡ true → u ≡ v
 leb-antisymmetric u v a b = omega (arith, leb-true u v a, leb-true v u b)
 
-pub total-lawful : Lawful total
-total-lawful = record {
-  associative = added-associative;
-  commutative = λ u v. omega arith;
-  neutral = λ v. omega arith;
+-- numbers by their order, under any joining that keeps its laws
+by-numbers : (join : ℕ → ℕ → ℕ) → ((u v w : ℕ) → join (join u v) w ≡ join u (join v w)) → ((u v : ℕ) → join u v ≡ join v u) → ((v : ℕ) → join 0 v ≡ v) → ((v w : ℕ) → v ≤ join v w)
+    → Lawful (record { nil = 0; worth = λ d. d; join = join; no-more = leb })
+by-numbers join associative commutative neutral grows = record {
+  associative = associative;
+  commutative = commutative;
+  neutral = neutral;
   reflexive = λ v. le-leb v v (omega arith);
   transitive = leb-transitive;
   total = leb-total;
   antisymmetric = leb-antisymmetric;
-  grows = λ v w. le-leb v (added v w) (omega arith);
+  grows = λ v w. le-leb v (join v w) (grows v w);
 }
 
+pub total-lawful : Lawful total
+total-lawful = by-numbers added added-associative (λ u v. omega arith) (λ v. omega arith) (λ v w. omega arith)
+
 pub worst-lawful : Lawful worst
-worst-lawful = record {
-  associative = λ u v w. omega arith;
-  commutative = λ u v. omega arith;
-  neutral = λ v. omega arith;
-  reflexive = λ v. le-leb v v (omega arith);
-  transitive = leb-transitive;
-  total = leb-total;
-  antisymmetric = leb-antisymmetric;
-  grows = λ v w. le-leb v (max v w) (omega arith);
-}
+worst-lawful = by-numbers max (λ u v w. omega arith) (λ u v. omega arith) (λ v. omega arith) (λ v w. omega arith)
 
 pair-total : (u v : ℕ × ℕ) → (pair-within u v ≡ true) ⊎ (pair-within v u ≡ true)
 pair-total u v =
