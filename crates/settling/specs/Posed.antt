@@ -1,7 +1,7 @@
 -- The problem that a book poses.
-use mathlib.Core.Bool.{Bool}
 use mathlib.Core.List.{List, map}
 use Prim.Native.Nat.{ℕ}
+use Rattle.costing.specs.declared.costing.Costing.{Ghosts}
 use Rattle.draft.specs.Book.{Book}
 use Rattle.ratio.specs.declared.ratio.Ratio.{Ratio}
 use Rattle.settling.specs.Settling.{Costing, Problem}
@@ -14,6 +14,6 @@ rows b = map (λ n. n .candidates) (b .tones)
 abbrev pub problem : (Ratio → Ratio → ℕ) → Book → Problem Ratio
 problem distance b = record { candidates = rows b; distance = distance; bound = b .bound }
 
--- the costing of these four meanings
-abbrev pub costing-by : {V : Type 0} → V → (ℕ → V) → (V → V → V) → (V → V → Bool) → Costing V
-costing-by nil worth join no-more = record { nil = nil; worth = worth; join = join; no-more = no-more }
+-- what a costing of the bench means, by its four ghost members
+abbrev pub meant : {S V : Type 0} → Ghosts S V → Costing V
+meant c = record { nil = c .nil; worth = c .worth; join = c .join; no-more = c .within }

@@ -5,7 +5,7 @@ ghost use lib.ListN.{length};
 ghost use Rattle.draft.specs.Book.{new-book, Sound};
 ghost use Rattle.ratio.specs.Parts.{unison};
 ghost use Rattle.settling.specs.Graef.{InGraefsWords};
-ghost use Rattle.settling.specs.Posed.{problem, costing-by};
+ghost use Rattle.settling.specs.Posed.{problem, meant};
 ghost use Rattle.settling.specs.Run.{after, Stepped, Replayed};
 ghost use Rattle.settling.specs.declared.step.Step.{Step};
 use crate::settle::Sheet;
@@ -26,7 +26,7 @@ fn take_step<M: Measure, C: Costing>(
     sheet: &mut Sheet,
     stack: &mut [C::Value],
 ) -> Answer<C::Value>
-    ensures stepped { λ r. ⌜ Stepped (M·Measure .dist (now (measure .entry))) (costing-by (C·Costing .nil) (C·Costing .worth) (C·Costing .join) (C·Costing .within)) (length (now (stack .entry))) step (now (draft .entry)) (now (draft .exit)) r (now (sheet .entry)) (now (sheet .exit)) ⌝ }
+    ensures stepped { λ r. ⌜ Stepped (M·Measure .dist (now (measure .entry))) (meant C·Costing) (length (now (stack .entry))) step (now (draft .entry)) (now (draft .exit)) r (now (sheet .entry)) (now (sheet .exit)) ⌝ }
 {
     match step {
         Step::Enter { call } => Answer::Entered {
@@ -52,7 +52,7 @@ pub fn replay<M: Measure, C: Costing>(
     sheet: &mut Sheet,
     entries: &mut [Entry<C::Value>],
 ) -> Draft
-    ensures replayed { λ r. ⌜ Replayed (M·Measure .dist (now (measure .entry))) (costing-by (C·Costing .nil) (C·Costing .worth) (C·Costing .join) (C·Costing .within)) (length (now (stack .entry))) (now (steps .entry)) (now (entries .entry)) (now (entries .exit)) (now (sheet .entry)) (now (sheet .exit)) r ⌝ }
+    ensures replayed { λ r. ⌜ Replayed (M·Measure .dist (now (measure .entry))) (meant C·Costing) (length (now (stack .entry))) (now (steps .entry)) (now (entries .entry)) (now (entries .exit)) (now (sheet .entry)) (now (sheet .exit)) r ⌝ }
     ensures sound { λ _. ⌜ ((ss : List Step) → Sound (after new-book ss)) ⌝ }
     ensures in_graefs_words { λ _. ⌜ ((ss : List Step) → InGraefsWords (problem (M·Measure .dist (now (measure .entry))) (after new-book ss)) unison) ⌝ }
 {

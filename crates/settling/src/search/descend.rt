@@ -5,7 +5,7 @@ ghost use mathlib.Core.Path.{_≡_};
 ghost use Prim.Native.Nat.{_+_, _≤_};
 ghost use lib.ListN.{length};
 ghost use Rattle.costing.specs.Stacks.{stacked, room};
-ghost use Rattle.settling.specs.Posed.{costing-by};
+ghost use Rattle.settling.specs.Posed.{meant};
 ghost use Rattle.settling.specs.Searching.{Went, Overspent};
 ghost use Rattle.std.specs.Results.{Cases};
 use super::Search;
@@ -29,7 +29,7 @@ pub(crate) fn descend<M: Measure, C: Costing>(
 ) -> Result<(), Spent>
     requires { ⌜ (length (stacked (now stack)) ≡ k + 1) × (33 ≤ room (now stack)) × (k ≤ now draft .count) × (now search .trials ≤ allowance) ⌝ }
     ensures stacked { λ r. ⌜ Cases r (λ _. (stacked (now (stack .exit)) ≡ stacked (now (stack .entry))) × (room (now (stack .exit)) ≡ room (now (stack .entry)))) (λ _. Unit {0}) ⌝ }
-    ensures searched { λ r. ⌜ ((rest : List C·Value) (v : C·Value) → stacked (now (stack .entry)) ≡ rest ++ (v ∷ []) → Cases r (λ _. Went (M·Measure .dist (now (measure .entry))) (costing-by (C·Costing .nil) (C·Costing .worth) (C·Costing .join) (C·Costing .within)) (now (draft .entry)) allowance k v (now (search .entry)) (now (search .exit))) (λ _. Overspent (M·Measure .dist (now (measure .entry))) (costing-by (C·Costing .nil) (C·Costing .worth) (C·Costing .join) (C·Costing .within)) (now (draft .entry)) allowance k v (now (search .entry)))) ⌝ }
+    ensures searched { λ r. ⌜ ((rest : List C·Value) (v : C·Value) → stacked (now (stack .entry)) ≡ rest ++ (v ∷ []) → Cases r (λ _. Went (M·Measure .dist (now (measure .entry))) (meant C·Costing) (now (draft .entry)) allowance k v (now (search .entry)) (now (search .exit))) (λ _. Overspent (M·Measure .dist (now (measure .entry))) (meant C·Costing) (now (draft .entry)) allowance k v (now (search .entry)))) ⌝ }
 {
     let Some(cost) = stack.top() else {
         return Ok(());

@@ -3,7 +3,7 @@
 ghost use lib.ListN.{length};
 ghost use Rattle.draft.specs.Book.{Book};
 ghost use Rattle.draft.specs.Held.{Holds};
-ghost use Rattle.settling.specs.Posed.{costing-by};
+ghost use Rattle.settling.specs.Posed.{meant};
 ghost use Rattle.settling.specs.Promise.{Settling};
 use super::LARGEST_ALLOWANCE;
 use super::STACK_PLACES;
@@ -34,7 +34,7 @@ pub fn settle<M: Measure, C: Costing>(
     sheet: &mut Sheet,
     stack: &mut [C::Value],
 ) -> Result<Settled<C::Value>, SearchFault>
-    ensures settles { λ r. ⌜ ((b : Book) → Holds (now (draft .entry)) b → Settling (M·Measure .dist (now (measure .entry))) (costing-by (C·Costing .nil) (C·Costing .worth) (C·Costing .join) (C·Costing .within)) b allowance (length (now (stack .entry))) r (now (sheet .entry)) (now (sheet .exit))) ⌝ }
+    ensures settles { λ r. ⌜ ((b : Book) → Holds (now (draft .entry)) b → Settling (M·Measure .dist (now (measure .entry))) (meant C·Costing) b allowance (length (now (stack .entry))) r (now (sheet .entry)) (now (sheet .exit))) ⌝ }
 {
     if allowance > LARGEST_ALLOWANCE {
         return Err(SearchFault::OutOfLimits);

@@ -13,7 +13,7 @@ use Rattle.std.proofs.shelf.Lists.{same-from-push, length-take-le, length-push}
 use Rattle.costing.proofs.Stacked.{taken-put}
 use Rattle.std.proofs.shelf.Results.{cases-from-err}
 use Rattle.settling.specs.Explore.{beaten}
-use Rattle.settling.specs.Posed.{problem, costing-by}
+use Rattle.settling.specs.Posed.{problem, meant}
 use Rattle.settling.specs.Searching.{seen, Went, Overspent}
 use Rattle.settling.proofs.Descent.{there, Trying, beaten-some, beaten-none, went-beaten, went-end, trying-start, trying-all, spent-now, trying-broken, spent-child, trying-on, bound-read, bound-some, laid-read, pushed}
 use Rattle.settling.proofs.Rows.{paired-over, paired-within, row-some, row-none, row-end}
@@ -24,7 +24,7 @@ pub returns-then-no-more : need.returns-then-no-more
 returns-then-no-more g t c =
     let C = g .C·Costing in
     let dist = g .M·Measure .dist (c .args .measure .now) in
-    let cst = costing-by (C .nil) (C .worth) (C .join) (C .within) in
+    let cst = meant C in
     let d = c .args .draft .now in
     let k = c .args .k in
     let s = c .args .search .now in
@@ -39,7 +39,7 @@ pub returns-in-rest-candidates : need.returns-in-rest-candidates
 returns-in-rest-candidates g t c =
     let C = g .C·Costing in
     let dist = g .M·Measure .dist (c .args .measure .now) in
-    let cst = costing-by (C .nil) (C .worth) (C .join) (C .within) in
+    let cst = meant C in
     let d = c .args .draft .now in
     let k = c .args .k in
     let s = c .args .search .now in
@@ -58,7 +58,7 @@ pub candidates-holds : need.candidates-holds
 candidates-holds g t c =
     let C = g .C·Costing in
     let dist = g .M·Measure .dist (c .args .measure .now) in
-    let cst = costing-by (C .nil) (C .worth) (C .join) (C .within) in
+    let cst = meant C in
     let d = c .args .draft .now in
     let k = c .args .k in
     let s = c .args .search .now in
@@ -73,7 +73,7 @@ pub returns-then-search-allowance : need.returns-then-search-allowance
 returns-then-search-allowance g t c =
     let C = g .C·Costing in
     let dist = g .M·Measure .dist (c .args .measure .now) in
-    let cst = costing-by (C .nil) (C .worth) (C .join) (C .within) in
+    let cst = meant C in
     let d = c .args .draft .now in
     let k = c .args .k in
     let s = c .args .search .now in
@@ -101,7 +101,7 @@ pub candidates-again-then-apart-bound : need.candidates-again-then-apart-bound
 candidates-again-then-apart-bound g t c =
     let C = g .C·Costing in
     let dist = g .M·Measure .dist (c .args .measure .now) in
-    let cst = costing-by (C .nil) (C .worth) (C .join) (C .within) in
+    let cst = meant C in
     let d = c .args .draft .now in
     let k = c .args .k in
     let s = c .args .search .now in
@@ -128,7 +128,7 @@ pub loop-earlier-again : need.loop-earlier-again
 loop-earlier-again g t c =
     let C = g .C·Costing in
     let dist = g .M·Measure .dist (c .args .measure .now) in
-    let cst = costing-by (C .nil) (C .worth) (C .join) (C .within) in
+    let cst = meant C in
     let d = c .args .draft .now in
     let k = c .args .k in
     let s = c .args .search .now in
@@ -176,7 +176,7 @@ pub descend-requires : need.descend-requires
 descend-requires g t c κs =
     let C = g .C·Costing in
     let dist = g .M·Measure .dist (c .args .measure .now) in
-    let cst = costing-by (C .nil) (C .worth) (C .join) (C .within) in
+    let cst = meant C in
     let d = c .args .draft .now in
     let k = c .args .k in
     let s = c .args .search .now in
@@ -202,7 +202,7 @@ pub returns-in-Break-descend : need.returns-in-Break-descend
 returns-in-Break-descend g t c =
     let C = g .C·Costing in
     let dist = g .M·Measure .dist (c .args .measure .now) in
-    let cst = costing-by (C .nil) (C .worth) (C .join) (C .within) in
+    let cst = meant C in
     let d = c .args .draft .now in
     let k = c .args .k in
     let s = c .args .search .now in
@@ -230,7 +230,7 @@ pub candidates-again : need.candidates-again
 candidates-again g t c =
     let C = g .C·Costing in
     let dist = g .M·Measure .dist (c .args .measure .now) in
-    let cst = costing-by (C .nil) (C .worth) (C .join) (C .within) in
+    let cst = meant C in
     let d = c .args .draft .now in
     let k = c .args .k in
     let s = c .args .search .now in
@@ -256,7 +256,7 @@ pub returns : need.returns
 returns g t c =
     let C = g .C·Costing in
     let dist = g .M·Measure .dist (c .args .measure .now) in
-    let cst = costing-by (C .nil) (C .worth) (C .join) (C .within) in
+    let cst = meant C in
     let d = c .args .draft .now in
     let k = c .args .k in
     let s = c .args .search .now in

@@ -6,7 +6,7 @@ use Prim.Native.Nat.{_≤_, _<_}
 use lib.ListN.{length}
 use Rattle.draft.specs.Held.{book-of}
 use Rattle.draft.proofs.Holding.{held-count, held-book}
-use Rattle.settling.specs.Posed.{costing-by}
+use Rattle.settling.specs.Posed.{meant}
 use Rattle.settling.specs.Settling.{Lawful}
 use Rattle.costing.specs.Stacks.{stacked, room}
 use Rattle.std.specs.declared.option.Option.the-variants.{None}
@@ -18,7 +18,7 @@ use Rattle.settling.proofs.Settled.{spent-settles, none-settles, best-settles}
 use Rattle.settling.proofs.settle.run.settle.Given.{Over}
 use Rattle.settling.proofs.settle.run.settle.Needs as need
 
-lawful : (g : Over) → Lawful (costing-by (g .C·Costing .nil) (g .C·Costing .worth) (g .C·Costing .join) (g .C·Costing .within))
+lawful : (g : Over) → Lawful (meant (g .C·Costing))
 lawful g =
     let met = g .C·Costing·met in
     record {
@@ -36,7 +36,7 @@ pub returns-in-Break-descend : need.returns-in-Break-descend
 returns-in-Break-descend g c =
     let C = g .C·Costing in
     let dist = g .M·Measure .dist (c .args .measure .now) in
-    let cst = costing-by (C .nil) (C .worth) (C .join) (C .within) in
+    let cst = meant C in
     let d = c .args .draft .now in
     let allowance = c .args .allowance in
     let places = length (c .args .stack .now) in
@@ -56,7 +56,7 @@ pub returns-in-rest : need.returns-in-rest
 returns-in-rest g c =
     let C = g .C·Costing in
     let dist = g .M·Measure .dist (c .args .measure .now) in
-    let cst = costing-by (C .nil) (C .worth) (C .join) (C .within) in
+    let cst = meant C in
     let d = c .args .draft .now in
     let some : 0 < d .count = omega (arith, held-count d (book-of d) (held-book d), c .tones-tones .ensures .by-book (book-of d) (held-book d), c .if-tones-eq0 .left) in
     let empty = c .over-partial .ensures .empty in
@@ -77,7 +77,7 @@ pub returns : need.returns
 returns g c =
     let C = g .C·Costing in
     let dist = g .M·Measure .dist (c .args .measure .now) in
-    let cst = costing-by (C .nil) (C .worth) (C .join) (C .within) in
+    let cst = meant C in
     let d = c .args .draft .now in
     let count = c .tones-tones .ensures .by-book in
     let few = d .few in
