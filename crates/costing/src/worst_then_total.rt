@@ -3,7 +3,7 @@
 ghost use Rattle.std.specs.Prelude.{◌≡◌, ◌+◌, ◌-◌, ◌^◌, min, max};
 ghost use Rattle.costing.specs.Costs.{pair_joined, pair_within};
 ghost use Rattle.std.proofs.Common.{arith, rules};
-ghost use Rattle.costing.specs.Added.{added_associative};
+ghost use Rattle.costing.specs.Laws.Added.{added_associative};
 
 use crate::costing::Costing;
 use crate::total::Total;

@@ -4,24 +4,19 @@ use Rattle.std.specs.List.{AllByRecursion as All}
 use Rattle.std.proofs.ByRecursion.{All-from_get_or}
 use Rattle.std.proofs.lemmas.Int.{to_z-of_z}
 use Rattle.ratio.specs.declared.ratio.Ratio.{Ratio}
-use Rattle.ratio.specs.Limits.{limits}
-use Rattle.ratio.proofs.Limits.{ratio_within}
 use Rattle.ratio.proofs.Same.{same_ratio}
 use Rattle.measure.specs.Apart.{apart}
 use Rattle.measure.specs.Weights.{weighted}
 use Rattle.measure.specs.declared.weighted.WeightedPrimes.{WeightedPrimes}
-use Rattle.measure.specs.Sums.{weighted_within, weighted_only_zero, weighted_next}
+use Rattle.measure.specs.Laws.Bounded.{weights_within}
+use Rattle.measure.specs.Laws.Sums.{weighted_only_zero, weighted_next}
 
 large : (m : WeightedPrimes) → All (λ w. 1 ≤ w) m.weights
 large m = All-from_get_or (λ w. 1 ≤ w) m.weights 0 (λ i h. (m.allowed i h).0)
 
-small : (m : WeightedPrimes) → All (λ w. w ≤ 1000000) m.weights
-small m = All-from_get_or (λ w. w ≤ 1000000) m.weights 0 (λ i h. (m.allowed i h).1)
-
 -- over some of the primes the distance is at most 184,000,000
 pub partly_within : (m : WeightedPrimes) (a b : Ratio) (k : ℕ) → weighted (take k m.weights) a.exponents b.exponents ≤ 184000000
-partly_within m a b k =
-    weighted_within k m.weights a.exponents b.exponents limits (small m) (omega (arith, a.six)) (ratio_within a) (ratio_within b)
+partly_within m a b k = weights_within m.weights m.allowed a b k
 
 -- no distance between two ratios: they are one
 pub only_zero : (m : WeightedPrimes) (a b : Ratio) → weighted m.weights a.exponents b.exponents ≡ 0 → a ≡ b

@@ -2,5 +2,4 @@ pub mod Apart
 pub mod Weights
 pub mod Faults
 pub mod Harmonic
-pub mod ApartLemmas
-pub mod Sums
+pub mod Laws

@@ -2,7 +2,7 @@
 
 ghost use Rattle.measure.specs.Apart.{pitch_gap};
 ghost use Rattle.ratio.specs.Pitches.{ratio_pitch};
-ghost use Rattle.measure.specs.ApartLemmas.{apart_zero, apart_both, apart_triangle, apart_bounded};
+ghost use Rattle.measure.specs.Laws.Apart.{apart_zero, apart_both, apart_triangle, apart_bounded};
 ghost use Rattle.std.proofs.Common.{arith};
 ghost use Rattle.ratio.proofs.Pitches.{pitch_within};
 

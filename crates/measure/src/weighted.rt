@@ -6,7 +6,8 @@ ghost use Rattle.measure.specs.Weights.{Allowed, ByBarlow, barlow_weights, euler
 ghost use Rattle.measure.specs.Harmonic.{HarmonicDistance, SumOfParts, Additive};
 ghost use Rattle.ratio.specs.Parts.{unison};
 ghost use Rattle.std.specs.List.{AllZip};
-ghost use Rattle.measure.specs.Sums.{weighted_zero, weighted_both, weighted_triangle};
+ghost use Rattle.measure.specs.Laws.Bounded.{weighted_bounded};
+ghost use Rattle.measure.specs.Laws.Sums.{weighted_zero, weighted_both, weighted_triangle};
 ghost use Rattle.std.proofs.Common.{arith, rules};
 
 use crate::fault::WeightFault;
@@ -71,7 +72,7 @@ impl Measure for WeightedPrimes {
 
     ghost triangle = { λ m a b c. weighted_triangle m.weights a.exponents b.exponents c.exponents (omega (arith, m.six, b.six)) };
 
-    ghost bounded = { first_of (Prim.search rules, Prim.grind (arith, Self.row.coded.inj)) };
+    ghost bounded = { λ m a b. weighted_bounded m.weights m.six m.allowed a b };
 
     /// The distance, which is 0 only between equal ratios, and is the harmonic distance with these weights as the
     /// disharmonicities of the primes.

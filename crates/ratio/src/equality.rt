@@ -1,23 +1,27 @@
 //! When two ratios are equal.
 
 ghost use Rattle.std.specs.Prelude.{◌≡◌, Decides};
+ghost use Rattle.std.specs.Cmp.Lexicographic.{pointwise};
 ghost use Rattle.std.specs.Cmp.Rules.{comparing};
-ghost use Rattle.std.proofs.Common.{rules, arith};
-ghost use Rattle.std.specs.Cmp as Keys;
+ghost use Rattle.std.specs.Ordering.{int_eq};
+ghost use Rattle.std.proofs.Common.{rules};
 
 use crate::ratio::Ratio;
 
 /// True exactly if the two ratios are one, which is so exactly if their exponents are equal.
 impl PartialEq for Ratio {
-    ghost equals = { λ a b r. Decides r (a ≡ b) };
+    ghost eq = { λ a b. pointwise int_eq a.exponents b.exponents };
 
-    ghost laws = { Keys.partial_equiv_from_equiv (first_of (Prim.search (comparing, rules), Prim.grind (arith, Self.row.coded.inj))) };
+    ghost laws = { Prim.search (comparing, rules) };
 
-    fn eq(&self, other: &Ratio) -> bool {
+    fn eq(&self, other: &Ratio) -> bool
+        ensures exponents { result ≡ pointwise int_eq self.now.exponents other.now.exponents }
+        ensures equals { Decides result (self.now ≡ other.now) }
+    {
         self.exponents == other.exponents
     }
 }
 
 impl Eq for Ratio {
-    ghost laws = { first_of (Prim.search (comparing, rules), Prim.grind (arith, Self.row.coded.inj)) };
+    ghost laws = { Prim.search (comparing, rules) };
 }

@@ -3,7 +3,7 @@ use Rattle.std.proofs.Common.{◌≡◌, ℕ, ◌+◌, ◌-◌, ◌^◌, ◌<◌
 use Rattle.std.proofs.lemmas.Bool.{leb-true, le-leb, cases_lt}
 use Rattle.settling.specs.Settling.{Costing, Lawful}
 use Rattle.costing.specs.Costs.{added, pair_joined, pair_within}
-use Rattle.costing.specs.Added.{added_associative}
+use Rattle.costing.specs.Laws.Added.{added_associative}
 use Rattle.std.proofs.lemmas.Bool.Decides.{nat_tests}
 use Rattle.settling.specs.Costings.{total, worst, worst_then_total}
 

@@ -9,18 +9,18 @@ use Rattle.ratio.proofs.entry.differences.Goals as goal
 few : (ks : List ℕ) (i : ℕ) → All (λ k. k < 32) ks → length ks ≡ 6 → i < 6 → get_or ks i 0 < 32
 few ks i all l h = All-get_or (λ k. k < 32) ks i 0 (omega arith) all
 
-pub overflow-cast-exponents : goal.overflow-cast-exponents
-overflow-cast-exponents c =
+pub overflow_cast-exponents : goal.overflow_cast-exponents
+overflow_cast-exponents c =
     let a = few c.args.above.now c.loop-place.place c.requires.0 c.told-above c.loop-place-test.true in
     omega (arith, ints)
 
-pub overflow-cast-exponents-in-loop-place : goal.overflow-cast-exponents-in-loop-place
-overflow-cast-exponents-in-loop-place c =
+pub overflow_cast-exponents-in-loop-place : goal.overflow_cast-exponents-in-loop-place
+overflow_cast-exponents-in-loop-place c =
     let b = few c.args.below.now c.loop-place.place c.requires.1 c.told-below c.loop-place-test.true in
     omega (arith, ints)
 
-pub overflow-sub-exponents : goal.overflow-sub-exponents
-overflow-sub-exponents c =
+pub overflow_sub-exponents : goal.overflow_sub-exponents
+overflow_sub-exponents c =
     let a = few c.args.above.now c.loop-place.place c.requires.0 c.told-above c.loop-place-test.true in
     let b = few c.args.below.now c.loop-place.place c.requires.1 c.told-below c.loop-place-test.true in
     omega (arith, ints)

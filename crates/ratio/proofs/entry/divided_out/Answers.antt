@@ -12,8 +12,8 @@ loop-rest-init c =
 few : (c : goal.In-loop-rest) → c.loop-rest.times < 32
 few c = few_times c.loop-rest.times c.loop-rest.rest c.args.number c.loop-rest.invariant.1 c.loop-rest.invariant.2 c.requires.1
 
-pub overflow-add-times : goal.overflow-add-times
-overflow-add-times c = let f = few c in search rules
+pub overflow_add-times : goal.overflow_add-times
+overflow_add-times c = let f = few c in search rules
 
 pub loop-rest-smaller : goal.loop-rest-smaller
 loop-rest-smaller c = div-lt_self c.loop-rest.invariant.1 c.requires.2

@@ -2,9 +2,9 @@ use Rattle.std.proofs.Common.{Some, None, rules}
 use Rattle.ratio.proofs.Scans.{run_more, run_ends, scan_reads, finish_none}
 use Rattle.ratio.proofs.word.read_parts.Goals as goal
 
-pub returns-in-err-take : goal.returns-in-err-take
-returns-in-err-take c =
-    record { form = rw c.from-residual.ensures (scan_reads c.args.word.now None (search (rules, run_more))) }
+pub returns-in_err-take : goal.returns-in_err-take
+returns-in_err-take c =
+    record { form = rw c.from_residual.ensures (scan_reads c.args.word.now None (search (rules, run_more))) }
 
 pub loop-byte-preserved : goal.loop-byte-preserved
 loop-byte-preserved c = search (rules, run_more)
@@ -13,7 +13,7 @@ pub returns-in-Denominator : goal.returns-in-Denominator
 returns-in-Denominator c =
     record { form = scan_reads c.args.word.now (Some (c.in-Denominator.n, c.in-Denominator.d.number)) (search (rules, run_ends)) }
 
-pub returns-in-default : goal.returns-in-default
-returns-in-default c =
-    let none = finish_none c.loop-byte.scanner c.in-default.not-Denominator in
+pub returns-in_default : goal.returns-in_default
+returns-in_default c =
+    let none = finish_none c.loop-byte.scanner c.in_default.not-Denominator in
     record { form = scan_reads c.args.word.now None (search (rules, run_ends, none)) }

@@ -22,10 +22,10 @@ returns-then-cell-eq-BROKEN g c = record {
   tabled = c.requires.tabled;
 }
 
-pub returns-in-err-bound : goal.returns-in-err-bound
-returns-in-err-bound g c =
+pub returns-in_err-bound : goal.returns-in_err-bound
+returns-in_err-bound g c =
     let d = c.args.draft.now in
-    absurd (bound_some d (book_of d) (held_book d) c.args.low.tone c.args.high.tone c.requires.pair.order c.requires.there (c.in-err-bound.ensures.by_book (book_of d) (held_book d)))
+    absurd (bound_some d (book_of d) (held_book d) c.args.low.tone c.args.high.tone c.requires.pair.order c.requires.there (c.in_err-bound.ensures.by_book (book_of d) (held_book d)))
 
 pub bounds-cells-place-then-apart-bound : goal.bounds-cells-place-then-apart-bound
 bounds-cells-place-then-apart-bound g c = inside (g.M.Measure.dist c.args.measure.now) c.args.draft.now c.args.cells.now c.args.low c.args.lower.now c.args.high c.args.upper.now c.requires
@@ -36,7 +36,7 @@ returns-then-apart-bound g c =
     let d = c.args.draft.now in
     let e = c.args.low.tone in
     let k = c.args.high.tone in
-    let over = λ (b : Book) (h : Holds d b). subst (λ a. b.bound e k < a) c.distance-apart.ensures (subst (λ x. x < c.distance-apart.result) (bound_read d b h e k c.in-ok-bound.bound c.requires.pair.order c.requires.there (c.in-ok-bound.ensures.by_book b h)) c.if-apart-bound.true) in
+    let over = λ (b : Book) (h : Holds d b). subst (λ a. b.bound e k < a) c.distance-apart.ensures (subst (λ x. x < c.distance-apart.result) (bound_read d b h e k c.in_ok-bound.bound c.requires.pair.order c.requires.there (c.in_ok-bound.ensures.by_book b h)) c.if-apart-bound.true) in
     record {
       told = over;
       tabled = tabled_more dist d c.args.cells.now c.args.low c.args.lower.now c.args.high c.args.upper.now c.requires 1 (λ b h. noted_broken (dist c.args.lower.now c.args.upper.now) (b.bound e k) (over b h));
@@ -52,7 +52,7 @@ returns g c =
     let e = c.args.low.tone in
     let k = c.args.high.tone in
     let apart = c.distance-apart.result in
-    let within = λ (b : Book) (h : Holds d b). subst (λ x. apart ≤ x) (bound_read d b h e k c.in-ok-bound.bound c.requires.pair.order c.requires.there (c.in-ok-bound.ensures.by_book b h)) c.if-apart-bound.false in
+    let within = λ (b : Book) (h : Holds d b). subst (λ x. apart ≤ x) (bound_read d b h e k c.in_ok-bound.bound c.requires.pair.order c.requires.there (c.in_ok-bound.ensures.by_book b h)) c.if-apart-bound.false in
     record {
       told = λ b h. (c.distance-apart.ensures, subst (λ a. a ≤ b.bound e k) c.distance-apart.ensures (within b h));
       tabled = tabled_more dist d c.args.cells.now c.args.low c.args.lower.now c.args.high c.args.upper.now c.requires (2147483648 + apart) (λ b h. noted_within apart (b.bound e k) (within b h) ∙ subst (λ a. coded apart (b.bound e k) ≡ coded a (b.bound e k)) c.distance-apart.ensures refl);

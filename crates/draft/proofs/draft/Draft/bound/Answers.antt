@@ -38,7 +38,7 @@ returns c =
       by_book = taken_by d _ (Bound t u x) (λ b h. bound_taken b t u x (omega arith) c.if-tone-other.false (omega (arith, held_count d b h)) (omega (arith, held_count d b h))) (λ b h. record {
         tones = h.tones;
         bounds = λ i j hi hj apart.
-            ap (λ p. get_or (set d.bounds p x) (pair_place i j) 0) c.place-of.ensures.place
+            ap (λ p. get_or (set d.bounds p x) (pair_place i j) 0) c.place_of.ensures.place
             ∙ (bound_written d.bounds t u x i j d.pairs th uh c.if-tone-other.false hi hj apart ∙ ap (cond (same_pair t u i j) x) (h.bounds i j hi hj apart));
       });
     }

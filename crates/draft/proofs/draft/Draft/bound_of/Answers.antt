@@ -28,6 +28,6 @@ returns c =
     record {
       by_book = λ b h.
           let same = held_count d b h in
-          ap (λ p. Some (get_or d.bounds p 0)) c.place-of.ensures.place
+          ap (λ p. Some (get_or d.bounds p 0)) c.place_of.ensures.place
           ∙ (ap Some (h.bounds t u (omega arith) (omega arith) c.if-tone-other.false) ∙ sym (bound_there b t u c.if-tone-other.false (omega arith) (omega arith)));
     }

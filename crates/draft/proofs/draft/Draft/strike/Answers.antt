@@ -14,14 +14,14 @@ returns-then-tone-self c =
     let d = c.args.self.now in
     record { by_book = refused_by d (Strike c.args.tone c.args.candidate) NoTone (λ b h. strike_absent b c.args.tone c.args.candidate (omega (arith, held_count d b h))) }
 
-pub returns-in-err-strike : goal.returns-in-err-strike
-returns-in-err-strike c =
+pub returns-in_err-strike : goal.returns-in_err-strike
+returns-in_err-strike c =
     let d = c.args.self.now in
     let t = c.args.tone in
     let k = c.args.candidate in
     let x = get_or d.tones t c.index-self-tone.result in
-    let p = err_from_is_err_and c.from-residual.result c.from-residual.ensures.1 in
-    let why = c.in-err-strike.ensures.cases in
+    let p = err_from_is_err_and c.from_residual.result c.from_residual.ensures.1 in
+    let why = c.in_err-strike.ensures.cases in
     let is = p.1 ∙ ap Err (p.2 ∙ why.0) in
     let over = why.1 in
     record {
@@ -36,7 +36,7 @@ returns c =
     let k = c.args.candidate in
     let x = get_or d.tones t c.index-self-tone.result in
     let within = c.if-tone-self.false in
-    let done = c.in-ok-strike.ensures.cases in
+    let done = c.in_ok-strike.ensures.cases in
     let there = done.0 in
     record {
       by_book = taken_by d _ (Strike t k)

@@ -8,8 +8,8 @@ use Rattle.draft.proofs.Holding.{held_count, tone_more, same_noted}
 use Rattle.draft.proofs.Refusals.{tone_full, tone_taken}
 use Rattle.draft.proofs.draft.Draft.tone.Goals as goal
 
-pub returns-then-self-eq-MOST-TONES : goal.returns-then-self-eq-MOST-TONES
-returns-then-self-eq-MOST-TONES c =
+pub returns-then-self-eq-MOST_TONES : goal.returns-then-self-eq-MOST_TONES
+returns-then-self-eq-MOST_TONES c =
     let within : nat_abs c.args.pitch ≤ 12000000 = omega (arith, ints) in
     record { by_book = refused_by c.args.self.now (Tone c.args.pitch) TonesFull (λ b h. tone_full b c.args.pitch within (omega (arith, held_count c.args.self.now b h))) }
 

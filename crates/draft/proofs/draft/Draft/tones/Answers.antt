@@ -6,4 +6,4 @@ use Rattle.draft.proofs.draft.Draft.tones.Goals as goal
 pub returns : goal.returns
 returns c =
     let d = c.args.self.now in
-    record { by_book = λ b h. sym (held_count d b h); some-book = (book_of d, held_book d) }
+    record { by_book = λ b h. sym (held_count d b h); some_book = (book_of d, held_book d) }

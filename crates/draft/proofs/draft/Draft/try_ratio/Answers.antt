@@ -10,15 +10,15 @@ use Rattle.draft.proofs.Holding.{held_count, held_candidates, tone_replaced, ton
 use Rattle.draft.proofs.Refusals.{try_faulty, try_absent, try_full, try_taken}
 use Rattle.draft.proofs.draft.Draft.try_ratio.Goals as goal
 
-pub returns-in-err-ratio : goal.returns-in-err-ratio
-returns-in-err-ratio c =
+pub returns-in_err-ratio : goal.returns-in_err-ratio
+returns-in_err-ratio c =
     let d = c.args.self.now in
     let t = c.args.tone in
     let n = c.args.numerator in
     let m = c.args.denominator in
-    let f = c.in-err-ratio.field-0.0 in
-    let p = err_from_is_err_and c.from-residual.result c.from-residual.ensures.1 in
-    let faulty : entry n m ≡ Err f = sym c.in-err-ratio.ensures.value in
+    let f = c.in_err-ratio.field-0.0 in
+    let p = err_from_is_err_and c.from_residual.result c.from_residual.ensures.1 in
+    let faulty : entry n m ≡ Err f = sym c.in_err-ratio.ensures.value in
     record { by_book = subst (ByBook d d (Try t n m)) (sym (p.1 ∙ ap Err p.2)) (refused_by d (Try t n m) (Entry f) (λ b h. try_faulty b t n m f faulty)) }
 
 pub returns-then-tone-self : goal.returns-then-tone-self
@@ -27,22 +27,22 @@ returns-then-tone-self c =
     let t = c.args.tone in
     let n = c.args.numerator in
     let m = c.args.denominator in
-    record { by_book = refused_by d (Try t n m) NoTone (λ b h. try_absent b t n m c.in-ok-ratio.ratio (sym c.in-ok-ratio.ensures.value) (omega (arith, held_count d b h))) }
+    record { by_book = refused_by d (Try t n m) NoTone (λ b h. try_absent b t n m c.in_ok-ratio.ratio (sym c.in_ok-ratio.ensures.value) (omega (arith, held_count d b h))) }
 
-pub returns-in-err-add : goal.returns-in-err-add
-returns-in-err-add c =
+pub returns-in_err-add : goal.returns-in_err-add
+returns-in_err-add c =
     let d = c.args.self.now in
     let t = c.args.tone in
     let n = c.args.numerator in
     let m = c.args.denominator in
     let x = get_or d.tones t c.index-self-tone.result in
     let within = c.if-tone-self.false in
-    let p = err_from_is_err_and c.from-residual-in-err-add.result c.from-residual-in-err-add.ensures.1 in
-    let why = c.in-err-add.ensures.cases in
+    let p = err_from_is_err_and c.from_residual-in_err-add.result c.from_residual-in_err-add.ensures.1 in
+    let why = c.in_err-add.ensures.cases in
     let over = why.1 in
     record {
       by_book = subst (ByBook d d (Try t n m)) (sym (p.1 ∙ ap Err (p.2 ∙ why.0))) (refused_by d (Try t n m) CandidatesFull (λ b h.
-          try_full b t n m c.in-ok-ratio.ratio (sym c.in-ok-ratio.ensures.value) (omega (arith, held_count d b h)) (omega (arith, over, ap length (held_candidates d b h t x within (tone_read d t _ within))))));
+          try_full b t n m c.in_ok-ratio.ratio (sym c.in_ok-ratio.ensures.value) (omega (arith, held_count d b h)) (omega (arith, over, ap length (held_candidates d b h t x within (tone_read d t _ within))))));
     }
 
 pub returns : goal.returns
@@ -51,11 +51,11 @@ returns c =
     let t = c.args.tone in
     let n = c.args.numerator in
     let m = c.args.denominator in
-    let r = c.in-ok-ratio.ratio in
+    let r = c.in_ok-ratio.ratio in
     let x = get_or d.tones t c.index-self-tone.result in
     let within = c.if-tone-self.false in
-    let value : entry n m ≡ Ok r = sym c.in-ok-ratio.ensures.value in
-    let done = c.in-ok-add.ensures.cases in
+    let value : entry n m ≡ Ok r = sym c.in_ok-ratio.ensures.value in
+    let done = c.in_ok-add.ensures.cases in
     let room = done.0 in
     let more = done.1.listed ∙ ap (λ e. listed x ++ entered_ratio e) (sym value) in
     record {

@@ -20,8 +20,8 @@ loop-place-preserved c =
       | else-place-number w ↦ subst Going (sym w.self-is) (inv.0, inv.1, not_moving c.args.number c.loop-place.place before.candidates c.loop-place.self.candidates w.if-place-number.false inv.2)
     ]
 
-pub overflow-sub-self : goal.overflow-sub-self
-overflow-sub-self c = let same = c.loop-place.invariant.1 in omega arith
+pub overflow_sub-self : goal.overflow_sub-self
+overflow_sub-self c = let same = c.loop-place.invariant.1 in omega arith
 
 pub returns : goal.returns
 returns c =

@@ -10,5 +10,5 @@ returns c = record {
   answered = λ past said f.
       let text = answer_text c.to.result in
       let line = answered_held c.bytes.result.now (open_line past) text (c.bytes.ensures.held ∙ f.heard) c.to.ensures.answered in
-      answered_last past said text f.answered line (λ none. false≢true ((c.if-is-empty.ensures.nothing-heard (open_line past) f.heard).1 none));
+      answered_last past said text f.answered line (λ none. false≢true ((c.if-is_empty.ensures.nothing_heard (open_line past) f.heard).1 none));
 }

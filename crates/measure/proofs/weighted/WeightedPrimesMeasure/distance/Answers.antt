@@ -10,13 +10,13 @@ next : (c : goal.After-from)
     (sum ≤ 184000000) × (sum ≡ weighted (take (c.loop-place.place + 1) c.args.self.now.weights) c.args.a.now.exponents c.args.b.now.exponents)
 next c =
     distance_next c.args.self.now c.args.a.now c.args.b.now c.exponents-start.result c.exponents-end.result c.loop-place.place c.loop-place.total c.from.result
-    c.exponents-start.ensures.held c.exponents-end.ensures.held (omega arith) (search rules) (search rules) c.loop-place.invariant (c.from.ensures ∙ c.abs-diff.ensures)
+    c.exponents-start.ensures.held c.exponents-end.ensures.held (omega arith) (search rules) (search rules) c.loop-place.invariant (c.from.ensures ∙ c.abs_diff.ensures)
 
-pub overflow-mul-total : goal.overflow-mul-total
-overflow-mul-total c = omega (arith, (next c).0)
+pub overflow_mul-total : goal.overflow_mul-total
+overflow_mul-total c = omega (arith, (next c).0)
 
-pub overflow-add-total : goal.overflow-add-total
-overflow-add-total c = omega (arith, (next c).0)
+pub overflow_add-total : goal.overflow_add-total
+overflow_add-total c = omega (arith, (next c).0)
 
 pub loop-place-preserved : goal.loop-place-preserved
 loop-place-preserved c = (next c).1

@@ -10,8 +10,8 @@ use Rattle.ratio.proofs.ratio.Ratio.new.Goals as goal
 parts-fit : {n d : ℕ} → 0 < n → 0 < d → n ≤ 4294967295 → d ≤ 4294967295 → PartsFit n d
 parts-fit a b p q = record { numerator_some = a; denominator_some = b; numerator_small = p; denominator_small = q }
 
-pub returns-then-numerator-gt-LARGEST-PART : goal.returns-then-numerator-gt-LARGEST-PART
-returns-then-numerator-gt-LARGEST-PART c =
+pub returns-then-numerator-gt-LARGEST_PART : goal.returns-then-numerator-gt-LARGEST_PART
+returns-then-numerator-gt-LARGEST_PART c =
     let n = c.args.numerator in
     let d = c.args.denominator in
     let large : Entered n d (Err PartTooLarge) = search rules in
@@ -27,8 +27,8 @@ returns-then-above-below c =
     ) in
     record { entered = left; only = λ s h. entered_once n d s (Err PrimeLeft) h left; value = entry_is n d (Err PrimeLeft) left }
 
-pub invariant-of-result : goal.invariant-of-result
-invariant-of-result c =
+pub invariant_of-result : goal.invariant_of-result
+invariant_of-result c =
     let n = c.args.numerator in
     let d = c.args.denominator in
     let above = c.of-above.ensures.factored in
@@ -36,7 +36,7 @@ invariant-of-result c =
     let is = sym c.differences.ensures in
     let up_to : numerator c.differences.result ≤ n = subst (λ e. numerator e ≤ n) is (numerator_less n d _ _ _ _ above below) in
     let down_to : denominator c.differences.result ≤ d = subst (λ e. denominator e ≤ d) is (denominator_less n d _ _ _ _ above below) in
-    (subst (λ e. length e ≡ 6) is (minus_six n d _ _ _ _ above below), (omega arith, (omega arith, tt)))
+    record { six = subst (λ e. length e ≡ 6) is (minus_six n d _ _ _ _ above below); numerator_fits = omega arith; denominator_fits = omega arith }
 
 pub returns : goal.returns
 returns c =

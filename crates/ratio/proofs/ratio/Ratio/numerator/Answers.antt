@@ -16,8 +16,8 @@ pow-product-requires c =
     let f = (power_fits r.exponents r.six i c.loop-place-test.true 4294967295 r.numerator_fits).0 in
     subst (λ k. get_or primes i 0 ^ k < 4294967296) (sym is) (omega arith)
 
-pub overflow-mul-product : goal.overflow-mul-product
-overflow-mul-product c =
+pub overflow_mul-product : goal.overflow_mul-product
+overflow_mul-product c =
     let r = c.args.self.now in
     let i = c.loop-place.place in
     let is = up_positive (get_or r.exponents i (pos 0)) (search rules) c.if-exponent-gt0.true in

@@ -19,8 +19,8 @@ next c total before =
     let whole = step.1.0 in
     (simp to_z-of_z whole, simp to_z-of_z step.1.1)
 
-pub overflow-add-total : goal.overflow-add-total
-overflow-add-total c = (next c _ c.loop-place.invariant).0
+pub overflow_add-total : goal.overflow_add-total
+overflow_add-total c = (next c _ c.loop-place.invariant).0
 
 pub loop-place-preserved : goal.loop-place-preserved
 loop-place-preserved c = (next c _ c.loop-place.invariant).1

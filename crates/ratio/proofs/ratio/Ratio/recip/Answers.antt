@@ -4,8 +4,8 @@ use Rattle.ratio.specs.Products.{numerator, denominator}
 use Rattle.ratio.proofs.Terms.{turned, all_turned, small_exponent, numerator_neg, denominator_neg}
 use Rattle.ratio.proofs.ratio.Ratio.recip.Goals as goal
 
-pub overflow-sub-exponents : goal.overflow-sub-exponents
-overflow-sub-exponents c =
+pub overflow_sub-exponents : goal.overflow_sub-exponents
+overflow_sub-exponents c =
     let r = c.args.self.now in
     let i = c.loop-place.place in
     (turned (get_or r.exponents i (pos 0)) (search rules) (small_exponent r i c.loop-place-test.true)).0
@@ -23,16 +23,10 @@ loop-place-preserved c =
     let neg_more = map_more neg_ℤ r.exponents i (pos 0) (omega arith) in
     (length-set _ _ _ ∙ held, written ∙ set_more ∙ before ∙ sym neg_more)
 
-pub invariant-of-result : goal.invariant-of-result
-invariant-of-result c =
+pub invariant_of-result : goal.invariant_of-result
+invariant_of-result c =
     let r = c.args.self.now in
-    let is = sym (all_turned c.loop-place.place c.loop-place.exponents r.exponents c.loop-place-test.false c.loop-place.invariant.0 r.six c.loop-place.invariant.1) in (
-      c.loop-place.invariant.0,
-      (
-        subst (λ es. numerator es ≤ 4294967295) is (subst (λ n. n ≤ 4294967295) (sym (numerator_neg r.exponents)) r.denominator_fits),
-        (subst (λ es. denominator es ≤ 4294967295) is (subst (λ n. n ≤ 4294967295) (sym (denominator_neg r.exponents)) r.numerator_fits), tt),
-      ),
-    )
+    let is = sym (all_turned c.loop-place.place c.loop-place.exponents r.exponents c.loop-place-test.false c.loop-place.invariant.0 r.six c.loop-place.invariant.1) in record { six = c.loop-place.invariant.0; numerator_fits = subst (λ es. numerator es ≤ 4294967295) is (subst (λ n. n ≤ 4294967295) (sym (numerator_neg r.exponents)) r.denominator_fits); denominator_fits = subst (λ es. denominator es ≤ 4294967295) is (subst (λ n. n ≤ 4294967295) (sym (denominator_neg r.exponents)) r.numerator_fits) }
 
 pub returns : goal.returns
 returns c =

@@ -3,12 +3,12 @@ use Rattle.ratio.specs.Parts.{octaveless}
 use Rattle.ratio.proofs.Same.{same_ratio}
 use Rattle.ratio.proofs.ratio.Ratio.without_octaves.Goals as goal
 
-pub invariant-of-result : goal.invariant-of-result
+pub invariant_of-result : goal.invariant_of-result
 unfolding octaveless
-invariant-of-result c =
+invariant_of-result c =
     let r = c.args.self.now in
     let left = octaveless r in
-    (length-set _ _ _ ∙ r.six, (left.numerator_fits, (left.denominator_fits, tt)))
+    record { six = length-set _ _ _ ∙ r.six; numerator_fits = left.numerator_fits; denominator_fits = left.denominator_fits }
 
 pub returns : goal.returns
 unfolding octaveless

@@ -12,10 +12,10 @@ use Rattle.settling.proofs.Descent.{there, Trying, beaten_some, beaten_none, wen
 use Rattle.settling.proofs.Cells.{candidate_read, laid_kept, laid_is, laid_more}
 use Rattle.settling.proofs.Rows.{paired_over, paired_within, row_some, row_none, row_end}
 use Rattle.settling.proofs.search.descend.+descend.Goals as goal
-use Rattle.settling.proofs.search.descend.+descend.Goals.{in-Some-best+else-no-more, in-default-best}
+use Rattle.settling.proofs.search.descend.+descend.Goals.{in-Some-best+else-no_more, in_default-best}
 
-pub returns-in-default-candidates : goal.returns-in-default-candidates
-returns-in-default-candidates g t c =
+pub returns-in_default-candidates : goal.returns-in_default-candidates
+returns-in_default-candidates g t c =
     let C = g.C.Costing in
     let dist = g.M.Measure.dist c.args.measure.now in
     let cst = meant C in
@@ -24,7 +24,7 @@ returns-in-default-candidates g t c =
     let s = c.args.search.now in
     let cost = c.in-Some.cost in
     let unbeaten = c.requires.6 c.in-Some.ensures.0 cost c.in-Some.ensures.1 in
-    let went = went_end dist cst d c.args.allowance k cost s unbeaten (λ b h. sym (c.in-default-candidates.ensures.by_book b h)) c.requires.3 c.requires.2 in
+    let went = went_end dist cst d c.args.allowance k cost s unbeaten (λ b h. sym (c.in_default-candidates.ensures.by_book b h)) c.requires.3 c.requires.2 in
     record {
       stacked = (refl, refl);
       tabled = c.requires.4;
@@ -59,14 +59,14 @@ returns-then-search-allowance g t c =
       searched = λ rest v e. subst (λ u. Overspent dist cst d c.args.allowance k u s) (sym (same_from_push rest c.in-Some.ensures.0 v cost (sym e ∙ c.in-Some.ensures.1)).1) over;
     }
 
-pub overflow-add-search : goal.overflow-add-search
-overflow-add-search g t c = let within = c.candidates.invariant.0.within in let fits = c.ranges.allowance in let left = c.if-search-allowance.false in search rules
+pub overflow_add-search : goal.overflow_add-search
+overflow_add-search g t c = let within = c.candidates.invariant.0.within in let fits = c.ranges.allowance in let left = c.if-search-allowance.false in search rules
 
 pub loop-earlier-init : goal.loop-earlier-init
 loop-earlier-init g t c = (λ b h. refl, c.candidates.invariant.1)
 
-pub candidates-preserved-in-default-look : goal.candidates-preserved-in-default-look
-candidates-preserved-in-default-look g t c =
+pub candidates-preserved-in_default-look : goal.candidates-preserved-in_default-look
+candidates-preserved-in_default-look g t c =
     let C = g.C.Costing in
     let dist = g.M.Measure.dist c.args.measure.now in
     let cst = meant C in
@@ -90,12 +90,12 @@ candidates-preserved-in-default-look g t c =
           let p = problem dist b in
           c.loop-earlier.invariant.0 b h
           ∙ row_none p cst k e r xs c.loop-earlier.sum x inside (laid_read laid e k _ c.loop-earlier-test.true long)
-          (paired_over p cst e k x r c.loop-earlier.sum (dist x r) (b.bound e k) refl refl (c.in-default-look.ensures.told b h))),
-      c.in-default-look.ensures.tabled,
+          (paired_over p cst e k x r c.loop-earlier.sum (dist x r) (b.bound e k) refl refl (c.in_default-look.ensures.told b h))),
+      c.in_default-look.ensures.tabled,
     )
 
-pub candidates-preserved-then-no-more : goal.candidates-preserved-then-no-more
-candidates-preserved-then-no-more g t c =
+pub candidates-preserved-then-no_more : goal.candidates-preserved-then-no_more
+candidates-preserved-then-no_more g t c =
     let C = g.C.Costing in
     let dist = g.M.Measure.dist c.args.measure.now in
     let cst = meant C in
@@ -110,7 +110,7 @@ candidates-preserved-then-no-more g t c =
     let kept = λ (b : Book) (h : Holds d b). c.loop-earlier.invariant.0 b h ∙ row_end (problem dist b) cst k c.loop-earlier.earlier r (take k laid) c.loop-earlier.sum (subst (λ n. n ≤ c.loop-earlier.earlier) (sym (length-take-le k laid long)) c.loop-earlier-test.false) in
     let within = c.candidates.invariant.0.within in
     let left = c.if-search-allowance.false in (
-      trying_beaten dist cst d c.args.allowance k cost c.in-Some-candidates.candidates.now (λ b h. sym (c.in-Some-candidates.ensures.by_book b h)) s (stacked c.args.stack.now) (room c.args.stack.now) c.candidates.number c.candidates.search (stacked c.candidates.stack) (room c.candidates.stack) c.candidates.invariant.0 r c.candidates-test.true c.index-candidates-number.is long _ refl refl refl refl refl (omega arith) c.loop-earlier.sum c.in-Some-best.best c.in-Some-best.is (sym c.no-more.ensures ∙ c.if-no-more.true) kept,
+      trying_beaten dist cst d c.args.allowance k cost c.in-Some-candidates.candidates.now (λ b h. sym (c.in-Some-candidates.ensures.by_book b h)) s (stacked c.args.stack.now) (room c.args.stack.now) c.candidates.number c.candidates.search (stacked c.candidates.stack) (room c.candidates.stack) c.candidates.invariant.0 r c.candidates-test.true c.index-candidates-number.is long _ refl refl refl refl refl (omega arith) c.loop-earlier.sum c.in-Some-best.best c.in-Some-best.is (sym c.no_more.ensures ∙ c.if-no_more.true) kept,
       c.loop-earlier.invariant.1,
     )
 
@@ -171,8 +171,8 @@ bounds-search-k g t c =
     let d = c.args.draft.now in
     (there d c.args.k c.in-Some-candidates.candidates.now (sym (c.in-Some-candidates.ensures.by_book (book_of d) (held_book d)))).1
 
-pub overflow-cast-search : goal.overflow-cast-search
-overflow-cast-search g t c =
+pub overflow_cast-search : goal.overflow_cast-search
+overflow_cast-search g t c =
     let d = c.args.draft.now in
     let facts = there d c.args.k c.in-Some-candidates.candidates.now (sym (c.in-Some-candidates.ensures.by_book (book_of d) (held_book d))) in
     let few = facts.2 in
@@ -184,7 +184,7 @@ bounds-search-k-in-candidates g t c =
     (there d c.args.k c.in-Some-candidates.candidates.now (sym (c.in-Some-candidates.ensures.by_book (book_of d) (held_book d)))).1
 
 pub descend-requires : goal.descend-requires
-descend-requires g t c =
+descend-requires g t c κs =
     let C = g.C.Costing in
     let dist = g.M.Measure.dist c.args.measure.now in
     let cst = meant C in
@@ -214,13 +214,13 @@ descend-requires g t c =
     let more = λ (b : Book) (h : Holds d b). laid_more b k laid numbers (laid_kept b k s.laid s.numbers (c.requires.5 b h) laid numbers inv.laid inv.numbers) c.candidates.number c.index-candidates-number.result (candidate_read b k c.candidates.number c.in-Some-candidates.candidates.now c.index-candidates-number.result (sym (c.in-Some-candidates.ensures.by_book b h)) c.candidates-test.true c.index-candidates-number.is) few in_laid in_numbers in
     let sum = c.loop-earlier.sum in
     let ahead : Ahead cst c.candidates.search sum = λ n. elim c.match-search.branch [
-      | in-Some-best+else-no-more w ↦ beaten_some dist cst d c.args.allowance k sum c.candidates.search w.in-Some-best.best w.in-Some-best.is n ∙ (sym w.no-more.ensures ∙ w.if-no-more.false)
-      | in-default-best w ↦ beaten_none dist cst d c.args.allowance k sum c.candidates.search w.in-default-best.is n
+      | in-Some-best+else-no_more w ↦ beaten_some dist cst d c.args.allowance k sum c.candidates.search w.in-Some-best.best w.in-Some-best.is n ∙ (sym w.no_more.ensures ∙ w.if-no_more.false)
+      | in_default-best w ↦ beaten_none dist cst d c.args.allowance k sum c.candidates.search w.in_default-best.is n
     ] in
     λ ls. (search rules, (ls.0, (ls.1.0, (ls.1.1, (omega arith, wide₁, omega arith, omega arith, c.loop-earlier.invariant.1, more, λ rest v e. subst (λ u. Ahead cst c.candidates.search u) (sym (same_from_push rest (stacked c.candidates.stack) v sum (sym e ∙ on)).1) ahead)))))
 
-pub returns-in-err-descend : goal.returns-in-err-descend
-returns-in-err-descend g t c =
+pub returns-in_err-descend : goal.returns-in_err-descend
+returns-in_err-descend g t c =
     let C = g.C.Costing in
     let dist = g.M.Measure.dist c.args.measure.now in
     let cst = meant C in
@@ -240,12 +240,12 @@ returns-in-err-descend g t c =
     let height : length (stacked c.candidates.stack) ≡ k + 1 = ap length same ∙ c.requires.0 in
     let wide : 33 ≤ room c.candidates.stack = omega (arith, c.requires.1) in
     let on = pushed c.push.result (room c.candidates.stack) c.loop-earlier.sum (stacked c.candidates.stack) (stacked c.push.new.self) c.push.ensures.put (omega arith) in
-    let over = spent_child dist cst d c.args.allowance k cost c.in-Some-candidates.candidates.now (λ b h. sym (c.in-Some-candidates.ensures.by_book b h)) s (stacked c.args.stack.now) (room c.args.stack.now) c.candidates.number c.candidates.search (stacked c.candidates.stack) (room c.candidates.stack) c.candidates.invariant.0 r c.candidates-test.true c.index-candidates-number.is long c.loop-earlier.sum kept _ refl refl refl refl refl (search rules) (search rules) (c.in-err-descend.ensures.searched (stacked c.candidates.stack) c.loop-earlier.sum on) in
+    let over = spent_child dist cst d c.args.allowance k cost c.in-Some-candidates.candidates.now (λ b h. sym (c.in-Some-candidates.ensures.by_book b h)) s (stacked c.args.stack.now) (room c.args.stack.now) c.candidates.number c.candidates.search (stacked c.candidates.stack) (room c.candidates.stack) c.candidates.invariant.0 r c.candidates-test.true c.index-candidates-number.is long c.loop-earlier.sum kept _ refl refl refl refl refl (search rules) (search rules) (c.in_err-descend.ensures.searched (stacked c.candidates.stack) c.loop-earlier.sum on) in
     record {
-      stacked = MatchResult-from_err _ _ _ c.from-residual.ensures.0 (λ y. tt);
-      tabled = MatchResult-from_err _ _ _ c.from-residual.ensures.0 (λ y. tt);
+      stacked = MatchResult-from_err _ _ _ c.from_residual.ensures.0 (λ y. tt);
+      tabled = MatchResult-from_err _ _ _ c.from_residual.ensures.0 (λ y. tt);
       searched = λ rest v e.
-          MatchResult-from_err _ _ _ c.from-residual.ensures.0 (λ y. subst (λ u. Overspent dist cst d c.args.allowance k u s) (sym (same_from_push rest c.in-Some.ensures.0 v cost (sym e ∙ c.in-Some.ensures.1)).1) over);
+          MatchResult-from_err _ _ _ c.from_residual.ensures.0 (λ y. subst (λ u. Overspent dist cst d c.args.allowance k u s) (sym (same_from_push rest c.in-Some.ensures.0 v cost (sym e ∙ c.in-Some.ensures.1)).1) over);
     }
 
 pub candidates-preserved : goal.candidates-preserved
@@ -270,10 +270,10 @@ candidates-preserved g t c =
     let wide : 33 ≤ room c.candidates.stack = omega (arith, c.requires.1) in
     let on = pushed c.push.result (room c.candidates.stack) c.loop-earlier.sum (stacked c.candidates.stack) (stacked c.push.new.self) c.push.ensures.put (omega arith) in (
       trying_on dist cst d c.args.allowance k cost c.in-Some-candidates.candidates.now (λ b h. sym (c.in-Some-candidates.ensures.by_book b h)) s (stacked c.args.stack.now) (room c.args.stack.now) c.candidates.number c.candidates.search (stacked c.candidates.stack) (room c.candidates.stack) c.candidates.invariant.0 r c.candidates-test.true c.index-candidates-number.is long c.loop-earlier.sum kept _ refl refl refl refl refl (search rules) (search rules) _ _ _
-          (c.in-ok-descend.ensures.searched (stacked c.candidates.stack) c.loop-earlier.sum on)
-          (taken_put c.pop.result (stacked c.candidates.stack) _ _ c.loop-earlier.sum (c.in-ok-descend.ensures.stacked.0 ∙ on) c.pop.ensures.taken).1
-          (c.pop.ensures.size ∙ (c.in-ok-descend.ensures.stacked.1 ∙ c.push.ensures.size)),
-      c.in-ok-descend.ensures.tabled,
+          (c.in_ok-descend.ensures.searched (stacked c.candidates.stack) c.loop-earlier.sum on)
+          (taken_put c.pop.result (stacked c.candidates.stack) _ _ c.loop-earlier.sum (c.in_ok-descend.ensures.stacked.0 ∙ on) c.pop.ensures.taken).1
+          (c.pop.ensures.size ∙ (c.in_ok-descend.ensures.stacked.1 ∙ c.push.ensures.size)),
+      c.in_ok-descend.ensures.tabled,
     )
 
 pub returns : goal.returns

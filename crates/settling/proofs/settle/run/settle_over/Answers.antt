@@ -36,8 +36,8 @@ descend-requires g c =
     let wide : 33 ≤ room c.push.new.self = omega (arith, c.push.ensures.size, c.requires.1) in
     (height, wide, omega arith, omega arith, c.requires.3, λ b h. laid_none b _ _, λ rest v e n. refl)
 
-pub returns-in-err-descend : goal.returns-in-err-descend
-returns-in-err-descend g c =
+pub returns-in_err-descend : goal.returns-in_err-descend
+returns-in_err-descend g c =
     let C = g.C.Costing in
     let dist = g.M.Measure.dist c.args.measure.now in
     let cst = meant C in
@@ -49,15 +49,15 @@ returns-in-err-descend g c =
     let size = c.over-partial.ensures.size in
     let empty = c.over-partial.ensures.empty in
     let on = pushed c.push.result (room c.over-partial.result) c.nothing.result (stacked c.over-partial.result) (stacked c.push.new.self) c.push.ensures.put (omega (arith, ap length empty, c.requires.1)) in
-    let over = c.in-err-descend.ensures.searched [] C.nil (on ∙ (ap (λ xs. xs ++ (c.nothing.result ∷ [])) empty ∙ ap (λ v. v ∷ []) c.nothing.ensures)) in
-    let p = err_from_is_err_and c.from-residual.result c.from-residual.ensures.1 in
+    let over = c.in_err-descend.ensures.searched [] C.nil (on ∙ (ap (λ xs. xs ++ (c.nothing.result ∷ [])) empty ∙ ap (λ v. v ∷ []) c.nothing.ensures)) in
+    let p = err_from_is_err_and c.from_residual.result c.from_residual.ensures.1 in
     record {
       settles = λ b h. subst (λ r. Settling dist cst b allowance places r sheet sheet) (sym (p.1 ∙ ap Err p.2))
           (spent_settles dist cst (lawful g) d allowance places c.requires.0 c.requires.1 some (record { laid = []; numbers = []; best = None; sheet = []; trials = 0 }) refl refl over b h sheet);
     }
 
-pub returns-in-default : goal.returns-in-default
-returns-in-default g c =
+pub returns-in_default : goal.returns-in_default
+returns-in_default g c =
     let C = g.C.Costing in
     let dist = g.M.Measure.dist c.args.measure.now in
     let cst = meant C in
@@ -66,13 +66,13 @@ returns-in-default g c =
     let empty = c.over-partial.ensures.empty in
     let size = c.over-partial.ensures.size in
     let on = pushed c.push.result (room c.over-partial.result) c.nothing.result (stacked c.over-partial.result) (stacked c.push.new.self) c.push.ensures.put (omega (arith, ap length empty, c.requires.1)) in
-    let went = c.in-ok-descend.ensures.searched [] C.nil (on ∙ (ap (λ xs. xs ++ (c.nothing.result ∷ [])) empty ∙ ap (λ v. v ∷ []) c.nothing.ensures)) in
+    let went = c.in_ok-descend.ensures.searched [] C.nil (on ∙ (ap (λ xs. xs ++ (c.nothing.result ∷ [])) empty ∙ ap (λ v. v ∷ []) c.nothing.ensures)) in
     record {
-      settles = λ b h. none_settles dist cst (lawful g) d c.args.allowance (length c.args.stack.now) c.requires.0 c.requires.1 some _ refl refl c.descend.new.search went c.in-default.is b h c.args.sheet.now;
+      settles = λ b h. none_settles dist cst (lawful g) d c.args.allowance (length c.args.stack.now) c.requires.0 c.requires.1 some _ refl refl c.descend.new.search went c.in_default.is b h c.args.sheet.now;
     }
 
-pub write-out-requires : goal.write-out-requires
-write-out-requires g c =
+pub write_out-requires : goal.write_out-requires
+write_out-requires g c =
     let d = c.args.draft.now in
     let few = d.few in
     omega (arith, held_count d (book_of d) (held_book d), c.tones-tones.ensures.by_book (book_of d) (held_book d))
@@ -89,7 +89,7 @@ returns g c =
     let empty = c.over-partial.ensures.empty in
     let size = c.over-partial.ensures.size in
     let on = pushed c.push.result (room c.over-partial.result) c.nothing.result (stacked c.over-partial.result) (stacked c.push.new.self) c.push.ensures.put (omega (arith, ap length empty, c.requires.1)) in
-    let went = c.in-ok-descend.ensures.searched [] C.nil (on ∙ (ap (λ xs. xs ++ (c.nothing.result ∷ [])) empty ∙ ap (λ v. v ∷ []) c.nothing.ensures)) in
+    let went = c.in_ok-descend.ensures.searched [] C.nil (on ∙ (ap (λ xs. xs ++ (c.nothing.result ∷ [])) empty ∙ ap (λ v. v ∷ []) c.nothing.ensures)) in
     record {
-      settles = λ b h. best_settles dist cst (lawful g) d c.args.allowance (length c.args.stack.now) c.requires.0 c.requires.1 some _ refl refl c.descend.new.search went c.in-Some.cost c.in-Some.is c.write-out.ensures.long b h c.args.sheet.now c.write-out.new.sheet c.tones-tones.result (count b h) (omega (arith, held_count d b h, count b h)) c.write-out.ensures.written;
+      settles = λ b h. best_settles dist cst (lawful g) d c.args.allowance (length c.args.stack.now) c.requires.0 c.requires.1 some _ refl refl c.descend.new.search went c.in-Some.cost c.in-Some.is c.write_out.ensures.long b h c.args.sheet.now c.write_out.new.sheet c.tones-tones.result (count b h) (omega (arith, held_count d b h, count b h)) c.write_out.ensures.written;
     }

@@ -5,7 +5,7 @@ use Rattle.std.specs.List.{AllByRecursion as All}
 use Rattle.ratio.specs.Limits.{Within}
 use Rattle.measure.specs.Apart.{apart}
 use Rattle.measure.specs.Weights.{weighted}
-use Rattle.measure.specs.ApartLemmas.{apart_zero, apart_both, apart_triangle, apart_bounded, apart_only_zero}
+use Rattle.measure.specs.Laws.Apart.{apart_zero, apart_both, apart_triangle, apart_bounded, apart_only_zero}
 
 pub weighted_zero : (ws : List ℕ) (xs : List ℤ) → weighted ws xs xs ≡ 0
 weighted_zero [] xs = refl
