@@ -14,8 +14,8 @@ returns-then-word-eq0 c =
     let form : NumberRead c.args.word.now None = search rules in
     record { form = form; again = printed_number c.args.word.now None form }
 
-pub returns-then-not-is-ascii-digit : goal.returns-then-not-is-ascii-digit
-returns-then-not-is-ascii-digit c =
+pub returns-then-not-is_ascii_digit : goal.returns-then-not-is_ascii_digit
+returns-then-not-is_ascii_digit c =
     let e = at_drop_more (read_on c.loop-byte.number) c.args.word.now c.loop-byte.byte-index 0 (search rules) in
     let form : NumberRead c.args.word.now None = none_read c.args.word.now (search (rules, e)) in
     record { form = form; again = printed_number c.args.word.now None form }

@@ -5,5 +5,5 @@ use Rattle.session.proofs.page.put_text.Goals as goal
 pub returns : goal.returns
 returns c = record {
   end = refl;
-  written = part_put c.args.out.now c.args.place c.args.text.now c.copy-from-slice.new.self c.copy-from-slice.ensures.after;
+  written = part_put c.args.out.now c.args.place c.args.text.now c.copy_from_slice.new.self c.copy_from_slice.ensures.after;
 }

@@ -9,7 +9,7 @@ loop-number-preserved g c =
     let cst = meant C in
     let kept = c.loop-number.auto.entries in
     let count = c.min-count.ensures in
-    begun_more (g.M.Measure.dist c.args.measure.now) cst (length c.args.stack.now) c.args.steps.now c.args.entries.now c.loop-number.entries c.args.sheet.now c.loop-number.sheet c.take-step-answer.new.sheet c.loop-number.number c.loop-number.draft c.take-step-answer.new.draft _ c.take-step-answer.result (length c.loop-number.stack) c.loop-number.auto.stack (omega arith) (omega arith) c.loop-number.invariant c.take-step-answer.ensures.stepped
+    begun_more (g.M.Measure.dist c.args.measure.now) cst (length c.args.stack.now) c.args.steps.now c.args.entries.now c.loop-number.entries c.args.sheet.now c.loop-number.sheet c.take_step-answer.new.sheet c.loop-number.number c.loop-number.draft c.take_step-answer.new.draft _ c.take_step-answer.result (length c.loop-number.stack) c.loop-number.auto.stack (omega arith) (omega arith) c.loop-number.invariant c.take_step-answer.ensures.stepped
 
 pub returns : goal.returns
 returns g c =

@@ -8,15 +8,15 @@ returns-then-not-full c line name g h = (c.args.self, (g, not_full line c.args.s
 
 pub returns-in-One : goal.returns-in-One
 returns-in-One c line name g h =
-    c.with-one.ensures line name (one_given line c.args.self name c.args.behind g h (c.if-not-full.ensures.0 refl) c.in-One.word c.in-One.is)
+    c.with_one.ensures line name (one_given line c.args.self name c.args.behind g h (c.if-not-full.ensures.0 refl) c.in-One.word c.in-One.is)
 
 pub returns-in-Two : goal.returns-in-Two
 returns-in-Two c line name g h =
-    c.with-two.ensures line name (two_given line c.args.self name c.args.behind g h (c.if-not-full.ensures.0 refl) c.in-Two.first c.in-Two.second c.in-Two.is)
+    c.with_two.ensures line name (two_given line c.args.self name c.args.behind g h (c.if-not-full.ensures.0 refl) c.in-Two.first c.in-Two.second c.in-Two.is)
 
 pub returns-in-Three : goal.returns-in-Three
 returns-in-Three c line name g h =
-    c.with-three.ensures line name (three_given line c.args.self name c.args.behind g h (c.if-not-full.ensures.0 refl) c.in-Three.first c.in-Three.second c.in-Three.third c.in-Three.is)
+    c.with_three.ensures line name (three_given line c.args.self name c.args.behind g h (c.if-not-full.ensures.0 refl) c.in-Three.first c.in-Three.second c.in-Three.third c.in-Three.is)
 
 pub returns-in-Nothing : goal.returns-in-Nothing
 returns-in-Nothing c line name g h = (c.args.self, (g, wrong_number line c.args.self name c.args.behind c.in-Nothing.is h))

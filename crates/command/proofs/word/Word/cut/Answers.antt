@@ -2,8 +2,8 @@ use Rattle.std.proofs.Common.{◌≡◌, ◌+◌, ◌-◌, length, take, drop, a
 use Rattle.command.proofs.Cutting.{parted_at, front_spaceless, words_spaceless, placed_cut}
 use Rattle.command.proofs.word.Word.cut.Goals as goal
 
-pub returns-in-default : goal.returns-in-default
-returns-in-default c = search (rules, words_spaceless c.args.self.bytes.now c.in-default.ensures)
+pub returns-in_default : goal.returns-in_default
+returns-in_default c = search (rules, words_spaceless c.args.self.bytes.now c.in_default.ensures)
 
 pub returns : goal.returns
 returns c =
