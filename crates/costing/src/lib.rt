@@ -1,4 +1,5 @@
 //! What a whole scale costs: what a costing promises, the costings of the bench, and a stack for the costs of a search.
+#![tactic(auto)]
 
 pub mod costing;
 pub mod stack;

@@ -1,5 +1,5 @@
 -- When the book refuses, condition by condition. Assumes nothing.
-use Rattle.std.proofs.Common.{◌≡◌, ℕ, ◌<◌, ◌≤◌, leb, ◌⊎◌, [], ◌∷◌, length, ℤ, nat_abs, Some, None, Ok, Err, Option, sym, refl, ap, ◌∙◌, arith}
+use Rattle.std.proofs.Common.{◌≡◌, ℕ, ◌<◌, ◌≤◌, leb, ◌⊎◌, [], ◌∷◌, length, ℤ, nat_abs, Some, None, Ok, Err, Option, ap, ◌∙◌, arith}
 use Rattle.std.proofs.lemmas.Bool.Decides.{nat_tests}
 use Rattle.draft.specs.declared.fault.DraftFault.{DraftFault}
 use Rattle.ratio.specs.Computed.{entry}

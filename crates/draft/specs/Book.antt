@@ -1,6 +1,6 @@
 -- The book of entries: what the calls to a draft mean, as plain mathematics. It is fed the calls with their arguments, one
 -- after another, and nothing else.
-use Rattle.std.specs.Prelude.{◌≡◌, ℕ, zero, suc, ◌≤◌, Bool, true, false, cond, ◌&&◌, ◌||◌, List, [], ◌∷◌, ◌++◌, map, length, ℤ, Some, None, Ok, Err, Option, Result, ◌==◌, nat_le, nat_lt, slice_index_or, unsigned_abs}
+use Rattle.std.specs.Prelude.{◌≡◌, ℕ, zero, suc, ◌≤◌, Bool, cond, ◌&&◌, ◌||◌, List, [], ◌∷◌, ◌++◌, map, length, ℤ, Some, None, Ok, Err, Option, Result, ◌==◌, nat_le, nat_lt, slice_index_or, unsigned_abs}
 use Rattle.std.specs.List.{remove, AllByRecursion as All}
 use Rattle.ratio.specs.Computed.{entry}
 use Rattle.ratio.specs.declared.ratio.Ratio.{Ratio}

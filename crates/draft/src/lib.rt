@@ -1,4 +1,5 @@
 //! The draft: what a user enters of a scale that is to be settled.
+#![tactic(auto)]
 
 pub mod call;
 pub mod draft;

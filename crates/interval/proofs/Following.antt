@@ -6,7 +6,7 @@ use Rattle.lines.proofs.Hearing.{heard_count, heard_whole}
 use Rattle.ratio.specs.declared.ratio.Ratio.{Ratio}
 use Rattle.interval.specs.declared.fault.LineFault.{LineFault}
 use Rattle.interval.specs.declared.fault.LineFault.TheVariants.{TooLong, NoRatioWord, Entry}
-use Rattle.interval.specs.Naming.{WordEntered, Named}
+use Rattle.interval.specs.Naming.{Named}
 use Rattle.interval.specs.Answers.{Answered, AllAnswered}
 
 -- a line over 80 bytes names nothing but that fault

@@ -1,5 +1,5 @@
 -- The ratio that a line names.
-use Rattle.std.specs.Prelude.{◌≡◌, ℕ, ◌<◌, ◌≤◌, List, length, Some, None, Ok, Err, Result}
+use Rattle.std.specs.Prelude.{ℕ, ◌<◌, ◌≤◌, List, length, Some, None, Ok, Err, Result}
 use Rattle.ratio.specs.declared.ratio.Ratio.{Ratio}
 use Rattle.ratio.specs.declared.fault.RatioFault.{RatioFault}
 use Rattle.ratio.specs.Entry.{Entered}

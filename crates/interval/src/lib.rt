@@ -1,4 +1,5 @@
 //! What a ratio is worth, line by line: a ratio word in, its pitch and disharmonicities out.
+#![tactic(auto)]
 
 pub mod answer;
 pub mod fault;

@@ -1,5 +1,5 @@
 -- How the start of a line follows the bytes that are read.
-use Rattle.std.proofs.Common.{◌≡◌, ℕ, ◌+◌, ◌<◌, ◌≤◌, min, eqb, List, [], ◌∷◌, ◌++◌, length, take, set, Decides, sym, refl, ap, ◌∙◌, arith, length-append, length-take, rules}
+use Rattle.std.proofs.Common.{◌≡◌, ℕ, ◌+◌, ◌≤◌, min, eqb, List, [], ◌∷◌, ◌++◌, length, take, set, Decides, sym, ap, ◌∙◌, arith, length-take, rules}
 use Rattle.std.proofs.lemmas.List.{take_all, take-append-le, take_more_set, nil_from_length, length_push}
 
 -- as many bytes are held as were read, up to 81

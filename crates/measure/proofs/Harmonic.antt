@@ -1,5 +1,5 @@
 -- The distance by weights is the harmonic distance; disharmonicity over products and parts. Assumes nothing.
-use Rattle.std.proofs.Common.{◌≡◌, ℕ, zero, suc, ◌+◌, ◌*◌, ◌^◌, ◌<◌, ◌≤◌, List, [], ◌∷◌, map, length, ℤ, pos, negsuc, ◌-ℤ◌, neg_ℤ, nat_abs, sym, refl, ap, ◌∙◌, subst, mul-le-mul_right, mul_comm, add-mul, mul-pos, one-mul, mul-zero, zero-mul, mul-one, arith}
+use Rattle.std.proofs.Common.{◌≡◌, ℕ, zero, suc, ◌+◌, ◌*◌, ◌^◌, ◌<◌, ◌≤◌, List, [], ◌∷◌, map, length, ℤ, pos, negsuc, ◌-ℤ◌, neg_ℤ, nat_abs, sym, refl, ap, ◌∙◌, mul-le-mul_right, mul_comm, add-mul, mul-pos, one-mul, mul-zero, zero-mul, mul-one, arith}
 use native.Mathlib.Nat.{pow-zero, pow-succ'}
 use lib.ListN.{length-map}
 use borrow.Author.Differences.{up, down}

@@ -1,4 +1,5 @@
 //! Distances between ratios: what a measure promises, and the measures of the bench.
+#![tactic(auto)]
 
 pub mod blind;
 pub mod fault;

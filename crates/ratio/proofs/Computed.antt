@@ -1,11 +1,11 @@
 -- The computed answer to two numbers is the answer. Assumes nothing.
-use Rattle.std.proofs.Common.{◌≡◌, ℕ, zero, suc, ◌*◌, ◌/◌, ◌%◌, ◌^◌, ◌<◌, ◌≤◌, Bool, true, false, ◌&&◌, T, eqb, leb, ◌⊎◌, List, [], ◌∷◌, map, length, ℤ, pos, ◌-ℤ◌, Ok, Err, Result, sym, refl, ap, ◌∙◌, subst, inl, inr, ⊎_elim, mul-le-mul_right, mul_assoc, one-mul, mul_left_comm, arith, lit≤}
+use Rattle.std.proofs.Common.{◌≡◌, ℕ, zero, suc, ◌*◌, ◌/◌, ◌%◌, ◌^◌, ◌<◌, ◌≤◌, Bool, true, false, ◌&&◌, T, eqb, leb, ◌⊎◌, List, [], ◌∷◌, map, length, ℤ, pos, ◌-ℤ◌, Err, Result, sym, refl, ap, ◌∙◌, subst, inl, inr, ⊎_elim, mul-le-mul_right, mul_assoc, one-mul, mul_left_comm, arith, lit≤}
 use native.Mathlib.Nat.{mul-mod_right, pow-zero, pow-succ', pow-le-pow_left, div-eq_of_eq-mul_right}
 use Rattle.std.specs.List.{AllByRecursion as All}
 use Rattle.std.proofs.lemmas.Bool.{false≢true, leb-true, leb-false, le-leb, eqb-true, eqb-false, eq-eqb, ne_eqb, and_parts, and_cases, cond-true, cond-false, cond_both}
 use Rattle.ratio.specs.declared.ratio.Ratio.{Ratio}
 use Rattle.ratio.specs.declared.fault.RatioFault.{RatioFault}
-use Rattle.ratio.specs.declared.fault.RatioFault.TheVariants.{ZeroPart, PartTooLarge, PrimeLeft}
+use Rattle.ratio.specs.declared.fault.RatioFault.TheVariants.{PartTooLarge, PrimeLeft}
 use Rattle.ratio.specs.Products.{product, primes, numerator, denominator}
 use Rattle.ratio.specs.Factors.{Misses, Without, Factored, minus}
 use Rattle.ratio.specs.Entry.{PartsFit, Quotient, Entered}

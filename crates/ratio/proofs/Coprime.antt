@@ -1,8 +1,7 @@
 -- Every number can be taken apart, and the parts of a ratio share no factor. Assumes nothing.
-use Rattle.std.proofs.Common.{◌≡◌, ℕ, zero, suc, ◌+◌, ◌*◌, ◌/◌, ◌%◌, ◌^◌, ◌<◌, ◌≤◌, List, [], ◌∷◌, map, length, ℤ, sym, refl, ap, ◌∙◌, subst, ⊎_elim, mul-le-mul_right, mul_assoc, one-mul, mul-zero, zero-mul, arith}
+use Rattle.std.proofs.Common.{◌≡◌, ℕ, zero, suc, ◌*◌, ◌/◌, ◌%◌, ◌^◌, ◌<◌, ◌≤◌, List, [], ◌∷◌, map, length, ℤ, sym, refl, ap, ◌∙◌, subst, ⊎_elim, mul-le-mul_right, mul_assoc, one-mul, mul-zero, zero-mul, arith}
 use native.Mathlib.Nat.{pow-zero, pow-succ', div-lt_self}
 use borrow.Author.Differences.{up, down}
-use Rattle.std.specs.List.{AllByRecursion as All}
 use Rattle.std.proofs.lemmas.Bool.{cases_eq}
 use Rattle.ratio.specs.Products.{product, primes, numerator, denominator}
 use Rattle.ratio.specs.Factors.{Misses, Without, Factored, minus}

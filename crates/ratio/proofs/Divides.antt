@@ -1,9 +1,9 @@
 -- Powers of distinct primes: what two products of them have in common. Assumes nothing.
-use Rattle.std.proofs.Common.{◌≡◌, ℕ, zero, suc, ◌+◌, ◌*◌, ◌/◌, ◌%◌, ◌^◌, ◌<◌, ◌≤◌, Bool, true, false, cond, not, ◌&&◌, ◌||◌, eqb, ltb, ◌⊎◌, List, [], ◌∷◌, length, sym, refl, ap, ◌∙◌, subst, inl, inr, ⊎_elim, mod-lt, mul_assoc, mul_comm, add-mul, mul-pos, one-mul, mul-one, mul-add, arith}
-use native.Mathlib.Nat.{mul-mod_right, add-mul-mod_self_left, div-add-mod, pow-zero, pow-succ', eq_of_mul-eq-mul_left}
+use Rattle.std.proofs.Common.{◌≡◌, ℕ, zero, suc, ◌+◌, ◌*◌, ◌/◌, ◌%◌, ◌<◌, Bool, true, not, ◌&&◌, ◌||◌, eqb, ltb, List, [], ◌∷◌, sym, refl, ap, ◌∙◌, ⊎_elim, mod-lt, mul_assoc, mul_comm, add-mul, arith}
+use native.Mathlib.Nat.{add-mul-mod_self_left, div-add-mod}
 use Rattle.std.specs.List.{AllByRecursion as All}
 use Rattle.std.proofs.lemmas.Bool.{eqb-true, eqb-false, eq-eqb, ltb-true, and_parts, or_cases, not-true, both_ways, cases_eq}
-use Rattle.ratio.specs.Products.{product, primes}
+use Rattle.ratio.specs.Products.{primes}
 use Rattle.ratio.specs.Factors.{Misses}
 
 -- p divides a product only if it divides a factor

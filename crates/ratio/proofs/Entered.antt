@@ -1,5 +1,5 @@
 -- Entering two numbers has one answer, and a ratio's own parts give that ratio. Assumes nothing.
-use Rattle.std.proofs.Common.{◌≡◌, ℕ, ◌*◌, ◌<◌, ◌≤◌, ◌⊎◌, List, [], ◌∷◌, map, length, ℤ, Ok, Err, Result, sym, refl, ap, ◌∙◌, ⊎_elim, mul_comm, mul-pos, arith}
+use Rattle.std.proofs.Common.{◌≡◌, ℕ, ◌*◌, ◌<◌, ◌⊎◌, List, map, length, ℤ, Ok, Err, Result, refl, ap, ◌∙◌, ⊎_elim, mul_comm, mul-pos, arith}
 use native.Mathlib.Nat.{eq_of_mul-eq-mul_left}
 use borrow.Author.Differences.{up, down}
 use Rattle.ratio.specs.declared.ratio.Ratio.{Ratio}

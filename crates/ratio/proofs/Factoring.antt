@@ -1,12 +1,11 @@
 -- A product of powers of distinct primes, times a rest that none of them divides, has one set of powers and one rest.
 -- Assumes nothing.
-use Rattle.std.proofs.Common.{◌≡◌, ℕ, zero, suc, ◌+◌, ◌*◌, ◌%◌, ◌^◌, ◌<◌, ◌≤◌, List, [], ◌∷◌, map, length, ℤ, pos, negsuc, sym, refl, ap, ◌∙◌, subst, mod-eq_of_lt, mul_assoc, mul_comm, mul-pos, one-mul, mul-one, arith, pow-add}
+use Rattle.std.proofs.Common.{◌≡◌, ℕ, zero, suc, ◌+◌, ◌*◌, ◌%◌, ◌^◌, ◌<◌, List, [], ◌∷◌, length, sym, refl, ap, ◌∙◌, subst, mod-eq_of_lt, mul_assoc, one-mul, arith, pow-add}
 use native.Mathlib.Nat.{mul-mod_right, pow-zero, pow-succ', eq_of_mul-eq-mul_left, zero-mod}
-use borrow.Author.Differences.{up, down, same_in}
 use Rattle.std.specs.List.{AllByRecursion as All}
-use Rattle.ratio.specs.Products.{product, primes, numerator, denominator}
+use Rattle.ratio.specs.Products.{product}
 use Rattle.ratio.specs.Factors.{Misses}
-use Rattle.ratio.proofs.Divides.{Prime, Distinct, primes_distinct}
+use Rattle.ratio.proofs.Divides.{Prime, Distinct}
 
 pub misses_one : {p : ℕ} → Prime p → Misses p 1
 misses_one {p} prime z = let e : 1 % p ≡ 1 = mod-eq_of_lt prime.large in omega arith

@@ -1,5 +1,5 @@
 -- How large the exponents of a ratio can be: at most 31, 20, 13, 11, 9 and 8, above zero and below it.
-use Rattle.std.proofs.Common.{◌≡◌, ℕ, zero, suc, ◌*◌, ◌^◌, ◌<◌, ◌≤◌, Bool, true, false, ◌&&◌, ltb, List, [], ◌∷◌, map, ℤ, refl, ⊎_elim, mul-le-mul_right, one-mul, le-mul_of_pos_right, arith}
+use Rattle.std.proofs.Common.{◌≡◌, ℕ, suc, ◌*◌, ◌^◌, ◌<◌, ◌≤◌, Bool, true, false, ◌&&◌, ltb, List, [], ◌∷◌, map, ℤ, refl, ⊎_elim, mul-le-mul_right, one-mul, le-mul_of_pos_right, arith}
 use native.Mathlib.Nat.{one-le-pow, one-le-mul, pow-le-pow_right}
 use borrow.Author.Differences.{up, down, abs_is}
 use Rattle.std.proofs.lemmas.Bool.{and_parts, ltb-true, cases_lt, false≢true}

@@ -1,6 +1,6 @@
 -- The exponents of a quotient: there is at most one set of them, and it is the difference of the multiplicities.
 -- Assumes nothing.
-use Rattle.std.proofs.Common.{◌≡◌, ℕ, zero, suc, ◌+◌, ◌*◌, ◌%◌, ◌^◌, ◌<◌, ◌≤◌, min, List, [], ◌∷◌, map, length, ℤ, pos, negsuc, ◌-ℤ◌, sym, refl, ap, ◌∙◌, subst, mul_assoc, mul_comm, mul-le-mul, mul-le-mul_left, mul-pos, one-mul, mul-one, arith}
+use Rattle.std.proofs.Common.{◌≡◌, ℕ, zero, suc, ◌+◌, ◌*◌, ◌<◌, ◌≤◌, min, List, [], ◌∷◌, map, length, ℤ, pos, negsuc, ◌-ℤ◌, sym, refl, ap, ◌∙◌, mul-le-mul, mul-le-mul_left, mul-one, arith}
 use native.Mathlib.Nat.{pow-le-pow_right}
 use lib.ListN.{length-map}
 use borrow.Author.Differences.{up, down, same_in}
@@ -8,7 +8,7 @@ use Rattle.std.specs.List.{AllZip, AllByRecursion as All}
 use Rattle.std.proofs.lemmas.Int.{ints}
 use Rattle.ratio.specs.Products.{product, primes, numerator, denominator}
 use Rattle.ratio.specs.Factors.{Without, Factored, minus}
-use Rattle.ratio.proofs.Divides.{Prime, Distinct, primes_distinct}
+use Rattle.ratio.proofs.Divides.{Distinct, primes_distinct}
 use Rattle.ratio.proofs.Factoring.{misses_one, misses_some, same_product, plus, length_plus, product_plus}
 
 without_one : (ps : List ℕ) → Distinct ps → Without ps 1

@@ -4,7 +4,7 @@ use Rattle.std.proofs.lemmas.List.{at_drop_more, at_drop_all}
 use Rattle.ratio.specs.declared.word.Part.{Part}
 use Rattle.ratio.specs.declared.word.Scanner.{Scanner}
 use Rattle.ratio.specs.declared.word.Scanner.TheVariants.{Start, Numerator, SlashSeen, Denominator}
-use Rattle.ratio.specs.Words.{Digits, value_on, value, Numeral, RatioWord, PartsRead}
+use Rattle.ratio.specs.Words.{Digits, value_on, value, Numeral, PartsRead}
 use Rattle.ratio.specs.Scanning.{is_digit, goes_on, no_digit, with_digit, allowed, step_of}
 
 -- the answer of a scanner at the end of the word

@@ -1,4 +1,5 @@
 //! Exact ratios: entry, lowest terms, six exponents, printing, pitch.
+#![tactic(auto)]
 
 pub mod entry;
 pub mod equality;

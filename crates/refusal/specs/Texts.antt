@@ -1,5 +1,5 @@
 -- The words and lines by which a refusal is told.
-use Rattle.std.specs.Prelude.{ℕ, List, [], ◌∷◌, ◌++◌, codes, decimal}
+use Rattle.std.specs.Prelude.{ℕ, List, ◌++◌, codes, decimal}
 use Rattle.refusal.specs.declared.Layer.{Layer}
 use Rattle.refusal.specs.declared.Layer.TheVariants.{Text, Ratio, Draft, Search}
 use Rattle.refusal.specs.declared.Refusal.{Refusal}

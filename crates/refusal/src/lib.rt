@@ -1,4 +1,5 @@
 //! What the bench answers where it refuses: the layer that found the fault, its number, and the column.
+#![tactic(auto)]
 
 ghost use Rattle.std.specs.Prelude.{◌≡◌, Some};
 ghost use Rattle.refusal.specs.Texts.{layer_word, refusal_line};

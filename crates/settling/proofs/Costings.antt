@@ -1,8 +1,8 @@
 -- The three costings keep the laws.
-use Rattle.std.proofs.Common.{◌≡◌, ℕ, ◌+◌, ◌-◌, ◌^◌, ◌<◌, ◌≤◌, min, max, true, leb, ◌⊎◌, sym, refl, ap, ◌∙◌, inl, inr, ⊎_elim, arith}
+use Rattle.std.proofs.Common.{◌≡◌, ℕ, ◌+◌, ◌^◌, ◌<◌, ◌≤◌, max, true, leb, ◌⊎◌, inl, inr, ⊎_elim, arith}
 use Rattle.std.proofs.lemmas.Bool.{leb-true, le-leb, cases_lt}
-use Rattle.settling.specs.Settling.{Costing, Lawful}
-use Rattle.costing.specs.Costs.{added, pair_joined, pair_within}
+use Rattle.settling.specs.Settling.{Lawful}
+use Rattle.costing.specs.Costs.{added, pair_within}
 use Rattle.costing.specs.Laws.Added.{added_associative}
 use Rattle.std.proofs.lemmas.Bool.Decides.{nat_tests}
 use Rattle.settling.specs.Costings.{total, worst, worst_then_total}

@@ -1,11 +1,11 @@
 -- Which choices a search has come past, and the best of those.
-use Rattle.std.proofs.Common.{◌≡◌, ℕ, zero, suc, ◌+◌, ◌<◌, ◌≤◌, Bool, true, false, cond, ◌⊎◌, List, [], ◌∷◌, ◌++◌, map, length, get_or, take, drop, Some, None, Option, sym, refl, ap, ◌∙◌, subst, inl, inr, ⊎_elim, arith}
+use Rattle.std.proofs.Common.{◌≡◌, ℕ, ◌+◌, ◌<◌, true, false, ◌⊎◌, List, [], ◌∷◌, ◌++◌, length, get_or, take, drop, Some, None, Option, sym, refl, ap, ◌∙◌, subst, inl, inr, ⊎_elim, arith}
 use Rattle.std.proofs.lemmas.List.{length_push, length-take-le, take_more, take-append-drop, same_from_push, take_all}
 use Rattle.std.proofs.lemmas.Bool.{cases_Bool, both_ways, cases_eq}
 use Rattle.settling.specs.Settling.{Costing, Lawful, Problem, Choice, before, keeps, cost, live}
 use Rattle.settling.proofs.Order.{before_append, before_from_take, before_push, before_push_cases}
-use Rattle.settling.proofs.Kept.{keeps_front, cost_grows}
-use Rattle.settling.proofs.Live.{Barred, live_free, live_from}
+use Rattle.settling.proofs.Kept.{cost_grows}
+use Rattle.settling.proofs.Live.{live_free, live_from}
 use Rattle.settling.specs.Explore.{beaten}
 
 -- The first numbers of t come before s.

@@ -1,5 +1,5 @@
 -- The steps of the search in the code, against the search as a function.
-use Rattle.std.proofs.Common.{◌≡◌, ℕ, zero, suc, ◌+◌, ◌<◌, ◌≤◌, Bool, true, false, cond, List, [], ◌∷◌, ◌++◌, map, length, get_or, take, drop, set, Some, None, fold, Option, sym, refl, ap, ◌∙◌, subst, arith}
+use Rattle.std.proofs.Common.{◌≡◌, ℕ, zero, suc, ◌+◌, ◌<◌, ◌≤◌, Bool, true, false, List, [], ◌∷◌, ◌++◌, map, length, get_or, take, drop, set, Some, None, fold, Option, sym, refl, ap, ◌∙◌, subst, arith}
 use Rattle.costing.specs.Stacks.{PutOn}
 use Rattle.std.specs.Option.{option_map}
 use Rattle.std.specs.List.{slice_get}
@@ -11,7 +11,7 @@ use Rattle.draft.specs.Reading.{candidates_in, bound_in}
 use Rattle.draft.proofs.Reading.{bound_there}
 use Rattle.draft.specs.declared.draft.Draft.{Draft}
 use Rattle.ratio.specs.declared.ratio.Ratio.{Ratio}
-use Rattle.settling.specs.Explore.{Found, counted, beaten, numbered, row, explore, step}
+use Rattle.settling.specs.Explore.{counted, beaten, numbered, row, explore, step}
 use Rattle.settling.specs.Posed.{rows, problem}
 use Rattle.settling.specs.Searching.{seen, found, searched, Went, Overspent}
 use Rattle.settling.specs.Settling.{Costing}

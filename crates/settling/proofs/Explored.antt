@@ -1,18 +1,18 @@
 -- The search from the empty start ends with the best choice and the trials of the problem.
-use Rattle.std.proofs.Common.{◌≡◌, ℕ, zero, suc, ◌+◌, ◌<◌, ◌≤◌, Bool, true, false, cond, ◌⊎◌, List, [], ◌∷◌, ◌++◌, map, length, get_or, take, drop, Some, None, fold, sum_by, Option, sym, refl, ap, ◌∙◌, subst, inl, inr, ⊎_elim, arith}
+use Rattle.std.proofs.Common.{◌≡◌, ℕ, suc, ◌+◌, ◌<◌, ◌≤◌, true, false, cond, List, [], ◌∷◌, ◌++◌, map, length, get_or, take, drop, Some, None, fold, sum_by, Option, sym, refl, ap, ◌∙◌, subst, inl, inr, ⊎_elim, arith}
 use Rattle.std.specs.List.{range_with_len, AllByRecursion as All}
-use Rattle.std.proofs.lemmas.List.{append-nil, append_assoc, length-append, length_push, length-map, get_or_push, get_or_at, take_at, take-append-drop, map_push}
-use Rattle.std.proofs.lemmas.List.FromFn.{length-range_with_len, get_or-map-range_with_len, length-map-range_with_len}
+use Rattle.std.proofs.lemmas.List.{append-nil, append_assoc, length-append, length_push, get_or_push, get_or_at, take_at, take-append-drop, map_push}
+use Rattle.std.proofs.lemmas.List.FromFn.{get_or-map-range_with_len, length-map-range_with_len}
 use Rattle.std.proofs.lemmas.List.Sums.{sum_by-cons, sum_by_push}
 use Rattle.std.proofs.lemmas.Bool.{cases_Bool, cases_eq, both_ways, cond-true, cond-false}
-use Rattle.settling.specs.Settling.{Costing, Lawful, Problem, Choice, choices, before, below, laid, apart, keeps, cost, live, trials_at, trials, Best}
-use Rattle.settling.proofs.Listed.{all_below, below_more, choice_push, sum_by_same, sum_by_both, sum_choices_push}
+use Rattle.settling.specs.Settling.{Costing, Lawful, Problem, Choice, choices, below, laid, apart, keeps, cost, live, trials_at, trials, Best}
+use Rattle.settling.proofs.Listed.{all_below, below_more, choice_push, sum_by_both, sum_choices_push}
 use Rattle.settling.proofs.Kept.{folded_map, folded_same, laid_front, keeps_front, keeps_push, keeps_last, cost_push}
 use Rattle.settling.proofs.Live.{live_keeps, dead_under}
 use Rattle.settling.specs.Explore.{Found, counted, next, beaten, numbered, row, explore, step}
 use Rattle.settling.proofs.Explore.{explore_beaten, explore_end, explore_tone}
 use Rattle.settling.proofs.Rows.{row_rowed, row_broken}
-use Rattle.settling.proofs.Covered.{Passed, Under, Through, Upto, BestOf, Right, right_same, passed_upto, upto_passed, through_upto, upto_through, under_push, beaten_dead, unbeaten_live, beaten_through, leaf_through}
+use Rattle.settling.proofs.Covered.{Passed, Under, Through, Upto, Right, right_same, passed_upto, upto_passed, through_upto, upto_through, under_push, beaten_dead, unbeaten_live, beaten_through, leaf_through}
 
 sum_by_zero : {A : Type 0} (f : A → ℕ) (xs : List A) → ((x : A) → f x ≡ 0) → sum_by f xs ≡ 0
 sum_by_zero f [] h = refl

@@ -1,11 +1,11 @@
 -- The best choice by the sum of the distances is an admissible scale of the least average distance.
-use Rattle.std.proofs.Common.{◌≡◌, ℕ, zero, suc, ◌+◌, ◌-◌, ◌*◌, ◌^◌, ◌<◌, ◌≤◌, Bool, true, false, cond, eqb, leb, ◌⊎◌, List, [], ◌∷◌, ◌++◌, map, length, get_or, fold, sum_by, sym, refl, ap, ◌∙◌, subst, inl, inr, ⊎_elim, mul-le-mul_right, mul-pos, le_of_mul-le-mul_right, arith}
+use Rattle.std.proofs.Common.{◌≡◌, ℕ, zero, suc, ◌+◌, ◌-◌, ◌*◌, ◌^◌, ◌<◌, ◌≤◌, true, cond, eqb, List, [], ◌∷◌, map, length, get_or, fold, sum_by, sym, refl, ap, ◌∙◌, subst, ⊎_elim, mul-le-mul_right, mul-pos, le_of_mul-le-mul_right, arith}
 use Rattle.std.specs.List.{ContainsAt as Has, AllByRecursion as All}
 use Rattle.std.proofs.lemmas.List.{same_lists, get_or_default, length-append, length-map}
-use Rattle.std.proofs.ByRecursion.{has_get_or, All-get_or, sum_by_le}
+use Rattle.std.proofs.ByRecursion.{has_get_or, sum_by_le}
 use Rattle.std.proofs.lemmas.List.FromFn.{get_or-map-range_with_len, length-map-range_with_len, length-range_with_len}
 use Rattle.std.proofs.lemmas.List.Sums.{sum_by-cons, sum_by-append, sum_by_push}
-use Rattle.std.proofs.lemmas.Bool.{cases_lt, cases_eq, cond-true, cond-false, eq-eqb, ne_eqb, leb-true, le-leb}
+use Rattle.std.proofs.lemmas.Bool.{cases_lt, cond-true, cond-false, eq-eqb, ne_eqb, leb-true, le-leb}
 use Rattle.settling.specs.Settling.{Problem, Choice, below, pairs, laid, apart, keeps, cost, Best}
 use Rattle.costing.specs.Costs.{added}
 use Rattle.settling.specs.Costings.{total}

@@ -1,10 +1,10 @@
 -- Bounds and cost: as relations, and of a start with one number more.
-use Rattle.std.proofs.Common.{◌≡◌, ℕ, zero, suc, ◌+◌, ◌<◌, ◌≤◌, Bool, true, false, leb, List, [], ◌∷◌, ◌++◌, map, length, get_or, take, fold, sym, refl, ap, ◌∙◌, subst, ⊎_elim, arith}
+use Rattle.std.proofs.Common.{◌≡◌, ℕ, ◌<◌, ◌≤◌, true, leb, List, [], ◌∷◌, ◌++◌, map, length, get_or, fold, sym, refl, ap, ◌∙◌, subst, ⊎_elim, arith}
 use Rattle.std.specs.List.{AllByRecursion as All}
 use Rattle.std.proofs.lemmas.List.{append_assoc, append-nil, length_push, length-append, get_or_append_left}
 use Rattle.std.proofs.lemmas.Bool.{leb-true, le-leb, cases_lt}
-use Rattle.settling.specs.Settling.{Costing, Lawful, Problem, all, below, pairs, laid, apart, keeps, cost}
-use Rattle.settling.proofs.Listed.{all_true, true_all, all_below, all_pairs, pairs_all, pairs_more}
+use Rattle.settling.specs.Settling.{Costing, Lawful, Problem, below, pairs, laid, apart, keeps, cost}
+use Rattle.settling.proofs.Listed.{all_true, true_all, all_pairs, pairs_all, pairs_more}
 
 -- ---- folds
 

@@ -1,11 +1,11 @@
 -- What holds of each of a list, of each number below another, of each pair of tones, and of each choice.
-use Rattle.std.proofs.Common.{◌≡◌, ℕ, zero, suc, ◌+◌, ◌<◌, ◌≤◌, Bool, true, false, cond, ◌&&◌, ◌⊎◌, List, [], ◌∷◌, ◌++◌, map, length, get_or, take, sum_by, sym, refl, ap, ◌∙◌, subst, inl, inr, ⊎_elim, arith}
-use Rattle.std.specs.List.{range_with_len, ContainsAt as Has, flat_map as gathered, AllByRecursion as All}
-use Rattle.std.proofs.lemmas.List.{append-nil, append_assoc, map-id, length-append, length_push, get_or_append_left, get_or_push, get_or_at}
+use Rattle.std.proofs.Common.{◌≡◌, ℕ, zero, suc, ◌+◌, ◌<◌, Bool, true, false, List, [], ◌∷◌, ◌++◌, map, length, get_or, sum_by, sym, refl, ap, ◌∙◌, subst, ⊎_elim, arith}
+use Rattle.std.specs.List.{ContainsAt as Has, flat_map as gathered, AllByRecursion as All}
+use Rattle.std.proofs.lemmas.List.{append-nil, append_assoc, map-id}
 use Rattle.std.proofs.ByRecursion.{All-get_or, All-from_get_or, All-append, All-map, all-has, all_has_itself, All-weaker}
 use Rattle.std.proofs.lemmas.List.FromFn.{length-range_with_len, get_or-range_with_len, map-range_with_len_more}
 use Rattle.std.proofs.lemmas.List.Sums.{sum_by-cons, sum_by-append}
-use Rattle.std.proofs.lemmas.Bool.{and_parts, and_from, and_cases, cases_Bool, cases_lt, both_ways}
+use Rattle.std.proofs.lemmas.Bool.{and_parts, and_from, and_cases, both_ways}
 use Rattle.settling.specs.Settling.{all, below, pairs, Choice, choices}
 
 module _ {A : Type 0} (t : A → Bool) where

@@ -1,11 +1,9 @@
 -- The choices are listed in list order, each once.
-use Rattle.std.proofs.Common.{◌≡◌, ℕ, zero, suc, ◌+◌, ◌<◌, ◌≤◌, Bool, true, false, ◌&&◌, ◌||◌, eqb, ltb, List, [], ◌∷◌, ◌++◌, map, length, get_or, sym, refl, ap, ◌∙◌, subst, arith}
+use Rattle.std.proofs.Common.{◌≡◌, ℕ, zero, suc, ◌+◌, ◌<◌, true, ◌&&◌, eqb, ltb, List, [], ◌∷◌, ◌++◌, map, length, refl, arith}
 use Rattle.std.specs.List.{range_with_len, flat_map as gathered, AllByRecursion as All}
-use Rattle.std.proofs.ByRecursion.{All-append, All-get_or, All-map, All-from_get_or}
-use Rattle.std.proofs.lemmas.List.FromFn.{length-range_with_len, get_or-range_with_len}
+use Rattle.std.proofs.ByRecursion.{All-append, All-map}
 use Rattle.std.proofs.lemmas.Bool.{or_left, or_right, and_from, lt-ltb, eq-eqb}
-use Rattle.settling.specs.Settling.{before, below, choices}
-use Rattle.settling.proofs.Listed.{all_gathered, map_all}
+use Rattle.settling.specs.Settling.{before, choices}
 
 -- Each comes before all that follow it.
 abbrev pub Ascending : List (List ℕ) → Type 0

@@ -1,5 +1,5 @@
 -- From what the search has found to what a settling promises. Assumes nothing.
-use Rattle.std.proofs.Common.{◌≡◌, ℕ, ◌<◌, ◌≤◌, List, [], ◌∷◌, ◌++◌, length, take, drop, Some, None, Ok, Err, Result, sym, refl, ap, ◌∙◌, subst, arith}
+use Rattle.std.proofs.Common.{◌≡◌, ℕ, ◌<◌, ◌≤◌, List, [], ◌++◌, length, take, drop, Some, None, Ok, Err, Result, sym, refl, ap, ◌∙◌, subst, arith}
 use Rattle.std.proofs.lemmas.List.{length-take-le}
 use Rattle.std.proofs.lemmas.Bool.Decides.{nat_tests}
 use Rattle.draft.specs.Book.{Book}
@@ -8,11 +8,11 @@ use Rattle.draft.specs.declared.draft.Draft.{Draft}
 use Rattle.draft.proofs.Holding.{held_count}
 use Rattle.ratio.specs.Parts.{unison}
 use Rattle.ratio.specs.declared.ratio.Ratio.{Ratio}
-use Rattle.settling.specs.Explore.{Found, explore}
+use Rattle.settling.specs.Explore.{explore}
 use Rattle.settling.specs.Posed.{rows, problem}
-use Rattle.settling.specs.Promise.{ill_put, book_trials, NoChoice, BestOnSheet, WellSettled, AnsweredBy, Settling}
+use Rattle.settling.specs.Promise.{ill_put, WellSettled, AnsweredBy, Settling}
 use Rattle.settling.specs.Searching.{seen, found, searched, Went, Overspent}
-use Rattle.settling.specs.Settling.{Costing, Lawful, Best}
+use Rattle.settling.specs.Settling.{Costing, Lawful}
 use Rattle.settling.specs.declared.fault.SearchFault.{SearchFault}
 use Rattle.settling.specs.declared.fault.SearchFault.TheVariants.{Spent, NoScale}
 use Rattle.settling.specs.declared.search.Search.{Search}

@@ -1,5 +1,5 @@
 -- The search as a function: from a start, through all that extends it, in list order. Only private functions cite this.
-use Rattle.std.specs.Prelude.{ℕ, ◌+◌, Bool, true, false, cond, List, [], ◌∷◌, ◌++◌, length, Some, None, fold, Option, nat_le}
+use Rattle.std.specs.Prelude.{ℕ, ◌+◌, Bool, false, cond, List, [], ◌∷◌, ◌++◌, length, Some, None, fold, Option, nat_le}
 use Rattle.settling.specs.Settling.{Costing, Problem}
 
 -- What a search has found: the best cost with its numbers, and how many trials there were.

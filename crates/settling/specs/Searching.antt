@@ -1,5 +1,5 @@
 -- How far a search has come, against the search as a function. Only private functions cite this.
-use Rattle.std.specs.Prelude.{◌≡◌, ℕ, ◌<◌, ◌≤◌, false, List, map, length, take, drop, Some, None, Option}
+use Rattle.std.specs.Prelude.{◌≡◌, ℕ, ◌<◌, ◌≤◌, false, List, length, take, drop, Some, None, Option}
 use Rattle.draft.specs.Book.{Book}
 use Rattle.draft.specs.Held.{Holds}
 use Rattle.draft.specs.declared.draft.Draft.{Draft}

@@ -1,6 +1,6 @@
 use Rattle.std.proofs.Common.{Ok, Err, sym, ap, ◌∙◌, subst, arith, rules}
 use Rattle.std.proofs.lemmas.Result.{err_from_is_err_and}
-use Rattle.interval.specs.declared.fault.LineFault.TheVariants.{TooLong, NoRatioWord, Entry}
+use Rattle.interval.specs.declared.fault.LineFault.TheVariants.{TooLong, NoRatioWord}
 use Rattle.interval.specs.Naming.{Named}
 use Rattle.interval.proofs.Naming.{only_named, printed_named}
 use Rattle.interval.proofs.name.named.Goals as goal

@@ -1,8 +1,7 @@
-use Rattle.std.proofs.Common.{◌≡◌, ℕ, ◌<◌, List, length, get_or, take, set, pos, ◌-ℤ◌, sym, ap, ◌∙◌, arith, length-set, take_all, w8, SFits, to_z, of_z, rules}
+use Rattle.std.proofs.Common.{◌≡◌, ℕ, ◌<◌, List, length, get_or, ◌∙◌, arith, length-set, take_all}
 use Rattle.std.specs.List.{AllByRecursion as All}
 use Rattle.std.proofs.ByRecursion.{All-get_or}
 use Rattle.std.proofs.lemmas.Int.{ints}
-use Rattle.ratio.specs.Factors.{minus}
 use Rattle.ratio.proofs.Multiplicities.{minus_more, small_difference}
 use Rattle.ratio.proofs.entry.differences.Goals as goal
 

@@ -1,4 +1,4 @@
-use Rattle.std.proofs.Common.{length, arith, rules}
+use Rattle.std.proofs.Common.{length, arith}
 use Rattle.settling.specs.Posed.{meant}
 use Rattle.settling.proofs.Runs.{begun_more, begun_all, sound_run, graefs_run}
 use Rattle.settling.proofs.replay.replay.Goals as goal

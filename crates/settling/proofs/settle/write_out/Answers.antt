@@ -1,4 +1,4 @@
-use Rattle.std.proofs.Common.{◌≡◌, ◌++◌, length, get_or, take, drop, set, ap, ◌∙◌, arith, rules}
+use Rattle.std.proofs.Common.{◌≡◌, ◌++◌, get_or, take, drop, set, ap, ◌∙◌, arith, rules}
 use Rattle.settling.proofs.Written.{written_more}
 use Rattle.settling.proofs.settle.write_out.Goals as goal
 

@@ -1,4 +1,4 @@
-use Rattle.std.proofs.Common.{◌≡◌, ◌<◌, ◌≤◌, cond, ◌⊎◌, length, get_or, set, sym, ap, ◌∙◌, subst, inl, inr, ⊎_elim, arith}
+use Rattle.std.proofs.Common.{◌<◌, ◌≤◌, cond, ◌⊎◌, get_or, set, ap, ◌∙◌, inl, inr, ⊎_elim, arith}
 use Rattle.draft.specs.Book.{same_pair}
 use Rattle.draft.specs.Held.{pair_place}
 use Rattle.draft.specs.declared.call.Call.TheVariants.{Bound}

@@ -1,4 +1,4 @@
-use Rattle.std.proofs.Common.{◌≡◌, ◌<◌, get_or, Some, sym, ap, ◌∙◌, inl, inr, arith}
+use Rattle.std.proofs.Common.{get_or, Some, sym, ap, ◌∙◌, inl, inr, arith}
 use Rattle.draft.proofs.Holding.{held_count}
 use Rattle.draft.proofs.Reading.{bound_same, bound_absent, bound_there}
 use Rattle.draft.proofs.draft.Draft.bound_of.Goals as goal

@@ -1,4 +1,4 @@
-use Rattle.std.proofs.Common.{◌≡◌, get_or, Some, sym, refl, ap, ◌∙◌}
+use Rattle.std.proofs.Common.{get_or, Some, sym, ap, ◌∙◌}
 use Rattle.std.specs.Option.{option_map}
 use Rattle.draft.proofs.Holding.{held_tone, held_none, tone_read}
 use Rattle.draft.proofs.draft.Draft.candidates.Goals as goal

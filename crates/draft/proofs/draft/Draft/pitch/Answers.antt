@@ -1,4 +1,4 @@
-use Rattle.std.proofs.Common.{◌≡◌, get_or, Some, sym, refl, ap, ◌∙◌, w32, rules}
+use Rattle.std.proofs.Common.{get_or, Some, sym, ap, ◌∙◌, w32, rules}
 use Rattle.std.proofs.lemmas.Int.{to_z-of_z}
 use Rattle.std.specs.Option.{option_map}
 use Rattle.draft.proofs.Holding.{held_tone, held_none, tone_read}

@@ -1,5 +1,4 @@
-use Rattle.std.proofs.Common.{◌≡◌, ◌+◌, ◌-◌, ◌*◌, ◌/◌, ◌<◌, max, sym, ap, ◌∙◌, subst}
-use Rattle.draft.specs.Held.{pair_place}
+use Rattle.std.proofs.Common.{◌+◌, ◌-◌, ◌*◌, ◌/◌, ◌<◌, max, sym, ap, ◌∙◌, subst}
 use Rattle.draft.proofs.Pairs.{place_within}
 use Rattle.draft.proofs.draft.entering.place_of.Goals as goal
 

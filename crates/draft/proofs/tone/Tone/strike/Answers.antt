@@ -1,6 +1,5 @@
-use Rattle.std.proofs.Common.{◌≡◌, ℕ, ◌+◌, ◌-◌, ◌<◌, ◌≤◌, length, take, set, sym, refl, ap, ◌∙◌, subst, arith}
+use Rattle.std.proofs.Common.{◌≡◌, ◌+◌, ◌-◌, length, take, set, sym, refl, ap, ◌∙◌, subst, arith}
 use Rattle.std.proofs.lemmas.List.{length-take-le}
-use Rattle.std.specs.List.{remove}
 use Rattle.draft.specs.declared.tone.Tone.{Tone}
 use Rattle.draft.proofs.Strikes.{Moving, moving_on, not_moving, struck}
 use Rattle.draft.proofs.tone.Tone.strike.Goals as goal

@@ -1,6 +1,5 @@
-use Rattle.std.proofs.Common.{◌≡◌, ◌*◌, ◌^◌, ◌<◌, get_or, sym, ap, ◌∙◌, subst, one-mul, arith, take_all}
-use Rattle.ratio.specs.Products.{primes}
-use Rattle.ratio.specs.Factors.{Misses, Factored}
+use Rattle.std.proofs.Common.{◌≡◌, ◌*◌, ◌^◌, ◌<◌, sym, subst}
+use Rattle.ratio.specs.Factors.{Misses}
 use Rattle.ratio.proofs.Multiplicities.{apart_none, apart_more, apart_all, prime_large}
 use Rattle.ratio.proofs.entry.Factors.of.Goals as goal
 

@@ -1,8 +1,6 @@
-use Rattle.std.proofs.Common.{◌≡◌, ℕ, ◌*◌, ◌^◌, ◌<◌, ◌≤◌, true, false, length, get_or, ℤ, pos, negsuc, nat_abs, sym, ap, ◌∙◌, subst, mul-one, arith, w8, SFits, to_z, of_z, rules}
+use Rattle.std.proofs.Common.{◌*◌, ◌^◌, ◌<◌, ◌≤◌, get_or, pos, sym, ap, ◌∙◌, subst, mul-one, arith, w8, SFits, rules}
 use native.Mathlib.Nat.{pow-zero}
-use lib.Signed.{lt_z}
 use borrow.Author.Differences.{up}
-use Rattle.std.proofs.lemmas.Int.{ints, to_z-of_z}
 use Rattle.ratio.specs.Products.{primes}
 use Rattle.ratio.proofs.Terms.{front_more, power_fits, up_positive, up_negative}
 use Rattle.ratio.proofs.ratio.Ratio.numerator.Goals as goal

@@ -1,4 +1,4 @@
-use Rattle.std.proofs.Common.{◌≡◌, ℕ, ◌+◌, ◌-◌, ◌<◌, ◌≤◌, true, false, length, get_or, take, drop, set, Some, None, sym, refl, ap, ◌∙◌, subst, arith, rules}
+use Rattle.std.proofs.Common.{◌≡◌, ◌+◌, ◌<◌, ◌≤◌, length, get_or, take, Some, sym, refl, ap, ◌∙◌, subst, arith, rules}
 use Rattle.draft.specs.Book.{Book}
 use Rattle.draft.specs.Held.{Holds, book_of}
 use Rattle.draft.proofs.Holding.{held_book}
@@ -8,7 +8,7 @@ use Rattle.costing.proofs.Stacked.{taken_put}
 use Rattle.std.proofs.lemmas.Result.{MatchResult-from_err}
 use Rattle.settling.specs.Posed.{problem, meant}
 use Rattle.settling.specs.Searching.{Ahead, Went, Overspent}
-use Rattle.settling.proofs.Descent.{there, Trying, beaten_some, beaten_none, went_end, trying_start, trying_all, spent_now, trying_broken, trying_beaten, spent_child, trying_on, laid_read, pushed}
+use Rattle.settling.proofs.Descent.{there, beaten_some, beaten_none, went_end, trying_start, trying_all, spent_now, trying_broken, trying_beaten, spent_child, trying_on, laid_read, pushed}
 use Rattle.settling.proofs.Cells.{candidate_read, laid_kept, laid_is, laid_more}
 use Rattle.settling.proofs.Rows.{paired_over, paired_within, row_some, row_none, row_end}
 use Rattle.settling.proofs.search.descend.+descend.Goals as goal

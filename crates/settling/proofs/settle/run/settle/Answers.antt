@@ -1,4 +1,4 @@
-use Rattle.std.proofs.Common.{◌≡◌, ◌<◌, ◌≤◌, refl, arith}
+use Rattle.std.proofs.Common.{◌≡◌, refl, arith}
 use Rattle.draft.specs.Held.{book_of}
 use Rattle.draft.proofs.Holding.{held_count, held_book}
 use Rattle.settling.proofs.Cells.{tabled_none}

@@ -1,4 +1,4 @@
-use Rattle.std.proofs.Common.{◌≡◌, ◌<◌, ◌≤◌, [], ◌∷◌, ◌++◌, length, None, Err, sym, refl, ap, ◌∙◌, subst, arith, rules}
+use Rattle.std.proofs.Common.{◌≡◌, ◌≤◌, [], ◌∷◌, ◌++◌, length, None, Err, sym, refl, ap, ◌∙◌, subst, arith}
 use Rattle.draft.specs.Held.{book_of}
 use Rattle.draft.proofs.Holding.{held_count, held_book}
 use Rattle.settling.specs.Posed.{meant}
