@@ -6,13 +6,13 @@ use Rattle.session.specs.Following.{Followed}
 use Rattle.session.proofs.Transcribing.{followed_held, lines_with_last, lines_without_last, row_more}
 use Rattle.session.proofs.transcript.Transcript.finish.Goals as goal
 
-pub returns-then-is-empty : goal.returns-then-is-empty
-returns-then-is-empty c = record {
+pub returns-then-is_empty : goal.returns-then-is_empty
+returns-then-is_empty c = record {
   finished = λ past said f.
       record {
-        heard = c.if-is-empty.ensures.nothing-held.0 refl;
+        heard = c.if-is_empty.ensures.nothing_held.0 refl;
         answers = f.answers;
-        followed = subst (λ lines. Followed c.args.self.now.session lines f.answers) (lines_without_last past ((c.if-is-empty.ensures.nothing-heard (open_line past) f.heard).0 refl)) f.followed;
+        followed = subst (λ lines. Followed c.args.self.now.session lines f.answers) (lines_without_last past ((c.if-is_empty.ensures.nothing_heard (open_line past) f.heard).0 refl)) f.followed;
         spoken = append-nil said ∙ f.spoken;
       };
   wrote = record { within = omega arith; rest = refl };
@@ -25,7 +25,7 @@ returns c =
     record {
       finished = λ past said f.
           let one = followed_held c.answer-end.new.self.session (ended past) (f.answers ++ (text ∷ [])) (held c.args.self.now.line) (open_line past) f.heard (by.one.followed (ended past) f.answers f.followed) in
-          let some : open_line past ≡ [] → ⊥ = λ none. false≢true ((c.if-is-empty.ensures.nothing-heard (open_line past) f.heard).1 none) in
+          let some : open_line past ≡ [] → ⊥ = λ none. false≢true ((c.if-is_empty.ensures.nothing_heard (open_line past) f.heard).1 none) in
           record {
             heard = c.clear.ensures.heard;
             answers = f.answers ++ (text ∷ []);
