@@ -1,4 +1,5 @@
 //! The bench on standard input and output: a session in lines, and the answer to each as it comes.
+#![tactic(auto)]
 
 use session::session::ANSWER_ROOM;
 use session::transcript::Transcript;

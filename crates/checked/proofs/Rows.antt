@@ -14,12 +14,9 @@ use Rattle.settling.proofs.Costings.{total_lawful, worst_lawful, worst_then_tota
 use Rattle.settling.proofs.Explored as Search
 use Rattle.settling.proofs.Explored.{nothing, explored}
 use Rattle.ratio.specs.declared.ratio.Ratio.{Ratio}
-use Rattle.ratio.specs.Entry.{PartsFit, Entered, Quotient}
+use Rattle.ratio.specs.Entry.{PartsFit, Entered}
 use Rattle.ratio.specs.Parts.{unison, octaveless}
-use Rattle.ratio.specs.Products.{numerator, denominator}
-use Rattle.measure.specs.Apart.{pitch_gap, octave_blind}
-use Rattle.measure.specs.Weights.{barlow_weights, euler_weights, weighted_distance}
-use Rattle.checked.specs.Figures.{Distance, Settles, triad, lone, bare, barlow, AllHold, figures}
+use Rattle.checked.specs.Figures.{Settles, triad, lone, bare, barlow, AllHold, figures}
 
 -- the exponents of the first three primes, and none of the others
 abbrev of : ℤ → ℤ → ℤ → List ℤ

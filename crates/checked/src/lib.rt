@@ -1,4 +1,5 @@
 //! Figures that are known from outside the bench, proved of its definitions.
+#![tactic(auto)]
 
 ghost use Rattle.std.specs.Prelude.{◌≡◌, length};
 ghost use Rattle.checked.specs.Figures.{figures, AllHold};

@@ -2,7 +2,7 @@
 use Rattle.std.proofs.Common.{◌≡◌, ℕ, suc, ◌+◌, ◌-◌, ◌<◌, ◌≤◌, true, false, cond, eqb, List, [], ◌∷◌, ◌++◌, length, get_or, take, drop, Some, refl, ap, ◌∙◌, arith, length-take, rules}
 use Rattle.std.proofs.lemmas.List.{take-append-drop, drop_more, take_rest, get_or-take}
 use Rattle.std.proofs.lemmas.Bool.Decides.{nat_tests}
-use Rattle.std.specs.List.{AllByRecursion as All}
+use Rattle.std.specs.List.{AllByRecursion}
 use Rattle.command.specs.Words.{words, placed, onto, spaced, CutAtSpaces}
 use Rattle.command.specs.Cutting.{Spaceless, FirstSpace, words_in}
 use Rattle.command.specs.declared.word.Word.{Word}
@@ -73,14 +73,14 @@ rejoined (c ∷ cs) =
       | false ↦ λ e. rw k.1.1 (cc)
     ] refl
 
-spaceless_onto : (c : ℕ) (ws : List (List ℕ)) → (c ≡ 32 → ⊥) → All (λ w. All (λ b. b ≡ 32 → ⊥) w) ws → All (λ w. All (λ b. b ≡ 32 → ⊥) w) (onto c ws)
+spaceless_onto : (c : ℕ) (ws : List (List ℕ)) → (c ≡ 32 → ⊥) → AllByRecursion (λ w. AllByRecursion (λ b. b ≡ 32 → ⊥) w) ws → AllByRecursion (λ w. AllByRecursion (λ b. b ≡ 32 → ⊥) w) (onto c ws)
 spaceless_onto c [] ne h = ((ne, tt), tt)
 spaceless_onto c (w ∷ ws) ne h = ((ne, h.0), h.1)
 
-spaceless : (line : List ℕ) → All (λ w. All (λ b. b ≡ 32 → ⊥) w) (words line)
+spaceless : (line : List ℕ) → AllByRecursion (λ w. AllByRecursion (λ b. b ≡ 32 → ⊥) w) (words line)
 spaceless [] = (tt, tt)
 spaceless (c ∷ cs) =
-    elim (eqb c 32) as (λ t. eqb c 32 ≡ t → All (λ w. All (λ b. b ≡ 32 → ⊥) w) (cond t ([] ∷ words cs) (onto c (words cs)))) [
+    elim (eqb c 32) as (λ t. eqb c 32 ≡ t → AllByRecursion (λ w. AllByRecursion (λ b. b ≡ 32 → ⊥) w) (cond t ([] ∷ words cs) (onto c (words cs)))) [
       | true ↦ λ e. (tt, spaceless cs)
       | false ↦ λ e. spaceless_onto c (words cs) (grind (arith, nat_tests)) (spaceless cs)
     ] refl

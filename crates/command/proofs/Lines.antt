@@ -1,6 +1,6 @@
 -- What a whole line is read as, by the words that it holds.
 use Rattle.std.proofs.Common.{◌≡◌, ℕ, ◌<◌, ◌≤◌, ◌⊎◌, List, [], ◌∷◌, length, sym, refl, ◌∙◌, subst, inl, inr, arith}
-use Rattle.std.specs.List.{AllByRecursion as All}
+use Rattle.std.specs.List.{AllByRecursion}
 use Rattle.command.specs.Cutting.{view, HoldsBehind, listed, Full}
 use Rattle.command.specs.Reading.{verb_word, arguments, Begins, WellSpaced, Placed}
 use Rattle.command.specs.Telling.{views, Given, columns_of}
@@ -42,13 +42,13 @@ some : (w : List ℕ) → (w ≡ [] → ⊥) → 0 < length w
 some [] ne = absurd (ne refl)
 some (c ∷ w) ne = omega arith
 
-full_from : (ws : List Word) → All (λ w. w ≡ [] → ⊥) (bytes (views ws)) → Full ws
+full_from : (ws : List Word) → AllByRecursion (λ w. w ≡ [] → ⊥) (bytes (views ws)) → Full ws
 full_from [] h = tt
 full_from (w ∷ ws) h = (some w.bytes.now h.0, full_from ws h.1)
 
 not_full_by : (line : List ℕ) (v : Verb) (name : Word) (ws : List Word) → placed 1 (words line) ≡ view name ∷ views ws → (Full ws → ⊥) → WellSpaced line v → ⊥
 not_full_by line v name ws h f s =
-    let all = subst (λ us. All (λ w. w ≡ [] → ⊥) us) (words_are line (view name ∷ views ws) h) s.single in
+    let all = subst (λ us. AllByRecursion (λ w. w ≡ [] → ⊥) us) (words_are line (view name ∷ views ws) h) s.single in
     f (full_from ws all.1)
 
 -- a word without bytes

@@ -1,7 +1,7 @@
 -- What the words of a line tell is what the line is read as.
 use Rattle.std.proofs.Common.{◌≡◌, ℕ, zero, suc, ◌+◌, ◌<◌, ◌≤◌, List, [], ◌∷◌, map, length, get_or, IsErrAnd, Ok, Err, Result, sym, refl, ap, ◌∙◌, subst, arith}
 use lib.ListN.{length-map}
-use Rattle.std.specs.List.{AllByRecursion as All}
+use Rattle.std.specs.List.{AllByRecursion}
 use Rattle.std.proofs.lemmas.Result.{err_from_is_err_and}
 use Rattle.settling.specs.declared.step.Step.{Step}
 use Rattle.command.specs.Cutting.{view, Full}
@@ -38,7 +38,7 @@ length_views : (ws : List Word) → length (bytes (views ws)) ≡ length ws
 length_views [] = refl
 length_views (w ∷ ws) = ap suc (length_views ws)
 
-full_views : (ws : List Word) → Full ws → All (λ w. w ≡ [] → ⊥) (bytes (views ws))
+full_views : (ws : List Word) → Full ws → AllByRecursion (λ w. w ≡ [] → ⊥) (bytes (views ws))
 full_views [] h = tt
 full_views (w ∷ ws) h = ((λ e. omega (arith, ap length e, h.0)), full_views ws h.1)
 
@@ -57,7 +57,7 @@ well_spaced line v name ws g n =
     let begin : name.bytes.now ≡ verb_word v = sym (word_is line (view name ∷ views ws) g.held 0) ∙ g.begins.named in
     record {
       count = ap length are ∙ ap suc (length_views ws ∙ n);
-      single = subst (λ us. All (λ w. w ≡ [] → ⊥) us) (sym are) ((λ e. omega (arith, ap length begin, ap length e, verb_some v)), full_views ws g.full);
+      single = subst (λ us. AllByRecursion (λ w. w ≡ [] → ⊥) us) (sym are) ((λ e. omega (arith, ap length begin, ap length e, verb_some v)), full_views ws g.full);
     }
 
 -- a wrong number of words

@@ -1,6 +1,6 @@
 -- The words of a line as they are cut off its front, each with its column. Only private functions cite this.
 use Rattle.std.specs.Prelude.{◌≡◌, ℕ, ◌+◌, ◌^◌, ◌<◌, ◌≤◌, List, [], ◌∷◌, length, Some, None, Option, ◌≢◌, slice_index}
-use Rattle.std.specs.List.{AllByRecursion as All}
+use Rattle.std.specs.List.{AllByRecursion}
 use Rattle.command.specs.Words.{words, placed}
 use Rattle.command.specs.declared.word.Word.{Word}
 use Rattle.command.specs.declared.word.Words.{Words}
@@ -55,4 +55,4 @@ listed More = []
 
 -- each word has a byte
 abbrev pub Full : List Word → Type 0
-Full ws = All (λ w. 0 < length w.bytes.now) ws
+Full ws = AllByRecursion (λ w. 0 < length w.bytes.now) ws

@@ -1,6 +1,6 @@
 -- What a line says.
 use Rattle.std.specs.Prelude.{◌≡◌, ℕ, suc, ◌<◌, ◌≤◌, cond, List, [], length, ℤ, Some, Ok, Err, codes, Result, ◌==◌, ◌≢◌}
-use Rattle.std.specs.List.{AllByRecursion as All}
+use Rattle.std.specs.List.{AllByRecursion}
 use Rattle.draft.specs.declared.call.Call.TheVariants.{Tone as ToneCall, Try as TryCall, Strike as StrikeCall, Bound as BoundCall, Level as LevelCall}
 use Rattle.ratio.specs.Words.{Numeral, PartsRead}
 use Rattle.settling.specs.declared.step.Step.{Step}
@@ -59,7 +59,7 @@ pub record Begins (line : List ℕ) (v : Verb) : Type 0 where
 -- the command has its number of words, with one space between each two and none at the ends
 pub record WellSpaced (line : List ℕ) (v : Verb) : Type 0 where
   pub count : length (words line) ≡ suc (arguments v)
-  pub single : All (λ w. w ≢ []) (words line)
+  pub single : AllByRecursion (λ w. w ≢ []) (words line)
 
 -- word k of the line is the leftmost that lacks its form
 pub record LeftmostAmiss (line : List ℕ) (v : Verb) (k : ℕ) : Type 0 where

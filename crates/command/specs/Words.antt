@@ -1,6 +1,6 @@
 -- The words of a line, cut at each space, which is byte 32.
 use Rattle.std.specs.Prelude.{◌≡◌, ℕ, ◌+◌, cond, List, [], ◌∷◌, ◌++◌, map, length, ◌==◌, ◌≢◌, slice_index, slice_index_or}
-use Rattle.std.specs.List.{AllByRecursion as All}
+use Rattle.std.specs.List.{AllByRecursion}
 
 -- the words, the first of which has this byte in front
 abbrev pub onto : ℕ → List (List ℕ) → List (List ℕ)
@@ -21,7 +21,7 @@ spaced (w ∷ (v ∷ ws)) = w ++ (32 ∷ spaced (v ∷ ws))
 -- the words of a line are the line cut at each space and nowhere else
 pub record CutAtSpaces (line : List ℕ) : Type 0 where
   pub whole : spaced (words line) ≡ line
-  pub spaceless : All (λ w. All (λ c. c ≢ 32) w) (words line)
+  pub spaceless : AllByRecursion (λ w. AllByRecursion (λ c. c ≢ 32) w) (words line)
 
 -- each word with its column, if the first stands at this one: as many columns on as the words before it and the spaces
 -- behind them have bytes

@@ -1,6 +1,6 @@
 -- What every book keeps. Assumes nothing.
 use Rattle.std.proofs.Common.{◌≡◌, ℕ, zero, suc, ◌<◌, ◌≤◌, Bool, true, false, cond, ◌&&◌, ◌||◌, eqb, leb, List, [], ◌∷◌, ◌++◌, map, length, get_or, ℤ, nat_abs, Some, None, Ok, Err, Option, Result, sym, refl, ap, ◌∙◌, subst, arith, length-append, length-drop, length-take}
-use Rattle.std.specs.List.{remove, AllByRecursion as All}
+use Rattle.std.specs.List.{remove, AllByRecursion}
 use Rattle.std.proofs.ByRecursion.{All-push}
 use Rattle.std.proofs.lemmas.Bool.{cond_both}
 use Rattle.std.proofs.lemmas.Bool.Decides.{nat_tests}
@@ -18,14 +18,14 @@ length_changed t f [] = refl
 length_changed zero f (n ∷ ns) = refl
 length_changed (suc t) f (n ∷ ns) = ap suc (length_changed t f ns)
 
-pitches_changed : (t : ℕ) (f : List Ratio → List Ratio) (ns : List Noted) → All (λ n. nat_abs n.pitch ≤ 12000000) ns → All (λ n. nat_abs n.pitch ≤ 12000000) (changed t f ns)
+pitches_changed : (t : ℕ) (f : List Ratio → List Ratio) (ns : List Noted) → AllByRecursion (λ n. nat_abs n.pitch ≤ 12000000) ns → AllByRecursion (λ n. nat_abs n.pitch ≤ 12000000) (changed t f ns)
 pitches_changed t f [] a = tt
 pitches_changed zero f (n ∷ ns) a = a
 pitches_changed (suc t) f (n ∷ ns) a = (a.0, pitches_changed t f ns a.1)
 
 -- the candidates of a tone, whether it is there or not
-few_changed : (t : ℕ) (f : List Ratio → List Ratio) (ns : List Noted) → All (λ n. length n.candidates ≤ 8) ns
-    → ((cs : List Ratio) → cs ≡ get_or (map (λ n. n.candidates) ns) t [] → length cs ≤ 8 → length (f cs) ≤ 8) → All (λ n. length n.candidates ≤ 8) (changed t f ns)
+few_changed : (t : ℕ) (f : List Ratio → List Ratio) (ns : List Noted) → AllByRecursion (λ n. length n.candidates ≤ 8) ns
+    → ((cs : List Ratio) → cs ≡ get_or (map (λ n. n.candidates) ns) t [] → length cs ≤ 8 → length (f cs) ≤ 8) → AllByRecursion (λ n. length n.candidates ≤ 8) (changed t f ns)
 few_changed t f [] a g = tt
 few_changed zero f (n ∷ ns) a g = (g n.candidates refl a.0, a.1)
 few_changed (suc t) f (n ∷ ns) a g = (a.0, few_changed t f ns a.1 g)

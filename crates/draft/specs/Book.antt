@@ -1,7 +1,7 @@
 -- The book of entries: what the calls to a draft mean, as plain mathematics. It is fed the calls with their arguments, one
 -- after another, and nothing else.
 use Rattle.std.specs.Prelude.{◌≡◌, ℕ, zero, suc, ◌≤◌, Bool, cond, ◌&&◌, ◌||◌, List, [], ◌∷◌, ◌++◌, map, length, ℤ, Some, None, Ok, Err, Option, Result, ◌==◌, nat_le, nat_lt, slice_index_or, unsigned_abs}
-use Rattle.std.specs.List.{remove, AllByRecursion as All}
+use Rattle.std.specs.List.{remove, AllByRecursion}
 use Rattle.ratio.specs.Computed.{entry}
 use Rattle.ratio.specs.declared.ratio.Ratio.{Ratio}
 use Rattle.ratio.specs.declared.fault.RatioFault.{RatioFault}
@@ -96,7 +96,7 @@ after b (c ∷ cs) = after (fed b c) cs
 -- what every book keeps: its limits, and that a bound is good both ways
 pub record Sound (b : Book) : Type 0 where
   pub few_tones : length b.tones ≤ 32
-  pub pitches : All (λ n. unsigned_abs n.pitch ≤ 12000000) b.tones
-  pub few_candidates : All (λ n. length n.candidates ≤ 8) b.tones
+  pub pitches : AllByRecursion (λ n. unsigned_abs n.pitch ≤ 12000000) b.tones
+  pub few_candidates : AllByRecursion (λ n. length n.candidates ≤ 8) b.tones
   pub bounds : (i j : ℕ) → b.bound i j ≤ 1073741824
   pub both_ways : (i j : ℕ) → b.bound i j ≡ b.bound j i

@@ -1,4 +1,5 @@
 //! Runs a list of entries, good and bad, through a draft, and prints each answer and what the draft then holds.
+#![tactic(auto)]
 
 use draft::call::Call;
 use draft::draft::Draft;

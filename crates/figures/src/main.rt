@@ -1,5 +1,6 @@
 //! Settles small scales whose figures are known from outside, and prints the answer to each settling and the first
 //! three places of the sheet after it.
+#![tactic(auto)]
 
 ghost use Rattle.std.specs.Prelude.{◌≡◌};
 ghost use Rattle.draft.specs.declared.call.Call.TheVariants.{Tone as ToneCall, Try};

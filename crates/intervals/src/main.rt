@@ -1,4 +1,5 @@
 //! Prints what ratios are worth: one ratio word a line in, one answer a line out.
+#![tactic(auto)]
 
 use interval::table::Table;
 use std::io;

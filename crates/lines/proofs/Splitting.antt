@@ -2,7 +2,7 @@
 use Rattle.std.proofs.Common.{◌≡◌, ℕ, Bool, true, false, cond, eqb, List, [], ◌∷◌, ◌++◌, sym, refl, ap, ◌∙◌, append_assoc, append-nil}
 use Rattle.std.proofs.ByRecursion.{All-push}
 use Rattle.std.proofs.lemmas.Bool.{eqb-true, eqb-false}
-use Rattle.std.specs.List.{AllByRecursion as All}
+use Rattle.std.specs.List.{AllByRecursion}
 use Rattle.lines.specs.Splitting.{ended_on, open_on, ended, open_line, rejoin, Unbroken, Split}
 
 -- the lines that two parts end: the second goes on with the line that the first leaves open
@@ -40,10 +40,10 @@ rejoined line (b ∷ bs) = by (eqb b 10) refl (rejoined [] bs) (rejoined (line +
   by false e anew onward = onward ∙ append_assoc line (b ∷ []) bs
 
 -- no line that is cut off holds byte 10
-pub cut : (line bs : List ℕ) → Unbroken line → All Unbroken (ended_on line bs) × Unbroken (open_on line bs)
+pub cut : (line bs : List ℕ) → Unbroken line → AllByRecursion Unbroken (ended_on line bs) × Unbroken (open_on line bs)
 cut line [] whole = (tt, whole)
 cut line (b ∷ bs) whole = by (eqb b 10) refl (cut [] bs tt) (cut (line ++ (b ∷ [])) bs) where
-  by : (v : Bool) → eqb b 10 ≡ v → All Unbroken (ended_on [] bs) × Unbroken (open_on [] bs) → (Unbroken (line ++ (b ∷ [])) → All Unbroken (ended_on (line ++ (b ∷ [])) bs) × Unbroken (open_on (line ++ (b ∷ [])) bs)) → All Unbroken (cond v (line ∷ ended_on [] bs) (ended_on (line ++ (b ∷ [])) bs)) × Unbroken (cond v (open_on [] bs) (open_on (line ++ (b ∷ [])) bs))
+  by : (v : Bool) → eqb b 10 ≡ v → AllByRecursion Unbroken (ended_on [] bs) × Unbroken (open_on [] bs) → (Unbroken (line ++ (b ∷ [])) → AllByRecursion Unbroken (ended_on (line ++ (b ∷ [])) bs) × Unbroken (open_on (line ++ (b ∷ [])) bs)) → AllByRecursion Unbroken (cond v (line ∷ ended_on [] bs) (ended_on (line ++ (b ∷ [])) bs)) × Unbroken (cond v (open_on [] bs) (open_on (line ++ (b ∷ [])) bs))
   by true e anew onward = ((whole, anew.0), anew.1)
   by false e anew onward = onward (All-push _ line b whole (eqb-false b 10 e))
 

@@ -1,6 +1,6 @@
 -- The lines of an input, which byte 10 ends.
 use Rattle.std.specs.Prelude.{◌≡◌, ℕ, cond, List, [], ◌∷◌, ◌++◌, ◌==◌, ◌≢◌}
-use Rattle.std.specs.List.{flat_map, AllByRecursion as All}
+use Rattle.std.specs.List.{flat_map, AllByRecursion}
 
 -- the lines that byte 10 ends in the bytes, if `line` is what the first of them begins with
 abbrev pub ended_on : List ℕ → List ℕ → List (List ℕ)
@@ -35,10 +35,10 @@ rejoin lines rest = flat_map (λ line. line ++ (10 ∷ [])) lines ++ rest
 
 -- no byte of the line is 10
 abbrev pub Unbroken : List ℕ → Type 0
-Unbroken line = All (λ b. b ≢ 10) line
+Unbroken line = AllByRecursion (λ b. b ≢ 10) line
 
 -- the ended lines and the open line are the input, cut at each byte 10 and nowhere else
 pub record Split (input : List ℕ) : Type 0 where
   pub rejoins : rejoin (ended input) (open_line input) ≡ input
-  pub unbroken : All Unbroken (ended input)
+  pub unbroken : AllByRecursion Unbroken (ended input)
   pub last_unbroken : Unbroken (open_line input)

@@ -1,6 +1,6 @@
 -- The distance by weights: what the weights' limits and the ratios' limits give.
 use Rattle.std.proofs.Common.{◌≡◌, ℕ, ◌+◌, ◌*◌, ◌<◌, ◌≤◌, List, get_or, take, ℤ, pos, sym, ◌∙◌, arith, w8, SFits, to_z, of_z}
-use Rattle.std.specs.List.{AllByRecursion as All}
+use Rattle.std.specs.List.{AllByRecursion}
 use Rattle.std.proofs.ByRecursion.{All-from_get_or}
 use Rattle.std.proofs.lemmas.Int.{to_z-of_z}
 use Rattle.ratio.specs.declared.ratio.Ratio.{Ratio}
@@ -11,7 +11,7 @@ use Rattle.measure.specs.declared.weighted.WeightedPrimes.{WeightedPrimes}
 use Rattle.measure.specs.Laws.Bounded.{weights_within}
 use Rattle.measure.specs.Laws.Sums.{weighted_only_zero, weighted_next}
 
-large : (m : WeightedPrimes) → All (λ w. 1 ≤ w) m.weights
+large : (m : WeightedPrimes) → AllByRecursion (λ w. 1 ≤ w) m.weights
 large m = All-from_get_or (λ w. 1 ≤ w) m.weights 0 (λ i h. (m.allowed i h).0)
 
 -- over some of the primes the distance is at most 184,000,000

@@ -8,7 +8,7 @@ use Rattle.ratio.specs.declared.ratio.Ratio.{Ratio}
 use Rattle.ratio.specs.Products.{primes, product, numerator, denominator}
 use Rattle.ratio.specs.Entry.{Quotient}
 use Rattle.ratio.specs.Parts.{unison}
-use Rattle.std.specs.List.{AllByRecursion as All}
+use Rattle.std.specs.List.{AllByRecursion}
 use Rattle.ratio.proofs.Factoring.{plus, length_plus, product_plus}
 use Rattle.ratio.proofs.Entered.{quotient_once}
 use Rattle.ratio.proofs.Coprime.{no_common}
@@ -90,7 +90,7 @@ harmonic_once ws x y g p =
 -- ---- whole numbers
 
 abbrev NonNegative : List ℤ → Type 0
-NonNegative es = All (λ e. down e ≡ 0) es
+NonNegative es = AllByRecursion (λ e. down e ≡ 0) es
 
 factor_one : (m n : ℕ) → m * n ≡ 1 → m ≡ 1
 factor_one zero n e = absurd (omega (arith, zero-mul n))
@@ -102,7 +102,7 @@ no_power : (p k : ℕ) → 1 < p → p ^ k ≡ 1 → k ≡ 0
 no_power p zero big e = refl
 no_power p (suc k) big e = absurd (omega (arith, factor_one p (p ^ k) (sym (pow-succ' p k) ∙ e)))
 
-nothing_below : (ps : List ℕ) (es : List ℤ) → All (λ p. 1 < p) ps → length es ≡ length ps → product ps (map down es) ≡ 1 → NonNegative es
+nothing_below : (ps : List ℕ) (es : List ℤ) → AllByRecursion (λ p. 1 < p) ps → length es ≡ length ps → product ps (map down es) ≡ 1 → NonNegative es
 nothing_below [] [] big l e = tt
 nothing_below [] (x ∷ es) big l e = absurd (omega arith)
 nothing_below (p ∷ ps) [] big l e = absurd (omega arith)
@@ -134,7 +134,7 @@ multiplied : (x y a b c d m n : ℕ) → x ≡ a → y ≡ b → c ≡ 1 → d �
 multiplied x y a b c d m n ex ey ec ed e =
     ap (λ k. (k * y) * m) ex ∙ (ap (λ k. (a * k) * m) ey ∙ (e ∙ (ap (λ k. (k * d) * n) ec ∙ ap (λ k. (1 * k) * n) ed)))
 
-primes_large : All (λ p. 1 < p) primes
+primes_large : AllByRecursion (λ p. 1 < p) primes
 primes_large = (omega arith, (omega arith, (omega arith, (omega arith, (omega arith, (omega arith, tt))))))
 
 pub additive : (ws : List ℕ) → Additive ws
@@ -198,7 +198,7 @@ sum_of_parts ws es g six e = record {
 from_none : (e : ℤ) → apart (pos 0) e ≡ nat_abs e
 from_none e = omega (arith, ints)
 
-from_zero : (ws : List ℕ) (zs es : List ℤ) → All (λ z. z ≡ pos 0) zs → length zs ≡ length es → weighted ws zs es ≡ sum_by_primes ws es
+from_zero : (ws : List ℕ) (zs es : List ℤ) → AllByRecursion (λ z. z ≡ pos 0) zs → length zs ≡ length es → weighted ws zs es ≡ sum_by_primes ws es
 from_zero [] zs es z l = refl
 from_zero (w ∷ ws) [] [] z l = refl
 from_zero (w ∷ ws) [] (e ∷ es) z l = absurd (omega arith)

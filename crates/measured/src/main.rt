@@ -1,5 +1,6 @@
 //! Settles drafts by any measure and costing of the bench, for comparison with another program: a session in lines, with two
 //! commands more, `measure NAME` and `costing NAME`, by which the settlings that follow go.
+#![tactic(auto)]
 
 use command::command::Command;
 use costing::costing::Costing;

@@ -1,7 +1,7 @@
 -- The computed answer to two numbers is the answer. Assumes nothing.
 use Rattle.std.proofs.Common.{◌≡◌, ℕ, zero, suc, ◌*◌, ◌/◌, ◌%◌, ◌^◌, ◌<◌, ◌≤◌, Bool, true, false, ◌&&◌, T, eqb, leb, ◌⊎◌, List, [], ◌∷◌, map, length, ℤ, pos, ◌-ℤ◌, Err, Result, sym, refl, ap, ◌∙◌, subst, inl, inr, ⊎_elim, mul-le-mul_right, mul_assoc, one-mul, mul_left_comm, arith, lit≤}
 use native.Mathlib.Nat.{mul-mod_right, pow-zero, pow-succ', pow-le-pow_left, div-eq_of_eq-mul_right}
-use Rattle.std.specs.List.{AllByRecursion as All}
+use Rattle.std.specs.List.{AllByRecursion}
 use Rattle.std.proofs.lemmas.Bool.{false≢true, leb-true, leb-false, le-leb, eqb-true, eqb-false, eq-eqb, ne_eqb, and_parts, and_cases, cond-true, cond-false, cond_both}
 use Rattle.ratio.specs.declared.ratio.Ratio.{Ratio}
 use Rattle.ratio.specs.declared.fault.RatioFault.{RatioFault}
@@ -40,7 +40,7 @@ few_powers p k q n big some e small =
     few_times k q n some (omega arith) small
 
 -- a power of p times u is no multiple of primes that miss p and u
-without_power : (p k u : ℕ) (ps : List ℕ) → Distinct ps → All (λ q. Misses q p) ps → Without ps u → Without ps (p ^ k * u)
+without_power : (p k u : ℕ) (ps : List ℕ) → Distinct ps → AllByRecursion (λ q. Misses q p) ps → Without ps u → Without ps (p ^ k * u)
 without_power p k u [] d misses w = tt
 without_power p k u (q ∷ ps) d misses w = (
   d.0.miss_both (p ^ k) u (miss_power d.0 p misses.0 k) w.0,

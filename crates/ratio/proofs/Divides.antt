@@ -1,7 +1,7 @@
 -- Powers of distinct primes: what two products of them have in common. Assumes nothing.
 use Rattle.std.proofs.Common.{◌≡◌, ℕ, zero, suc, ◌+◌, ◌*◌, ◌/◌, ◌%◌, ◌<◌, Bool, true, not, ◌&&◌, ◌||◌, eqb, ltb, List, [], ◌∷◌, sym, refl, ap, ◌∙◌, ⊎_elim, mod-lt, mul_assoc, mul_comm, add-mul, arith}
 use native.Mathlib.Nat.{add-mul-mod_self_left, div-add-mod}
-use Rattle.std.specs.List.{AllByRecursion as All}
+use Rattle.std.specs.List.{AllByRecursion}
 use Rattle.std.proofs.lemmas.Bool.{eqb-true, eqb-false, eq-eqb, ltb-true, and_parts, or_cases, not-true, both_ways, cases_eq}
 use Rattle.ratio.specs.Products.{primes}
 use Rattle.ratio.specs.Factors.{Misses}
@@ -60,13 +60,13 @@ prime_by_test p e =
 -- each is prime, and no multiple of any that stands after it, nor one of these of it
 abbrev pub Distinct : List ℕ → Type 0
 Distinct [] = Unit {0}
-Distinct (p ∷ ps) = Prime p × (All (Misses p) ps × (All (λ q. Misses q p) ps × Distinct ps))
+Distinct (p ∷ ps) = Prime p × (AllByRecursion (Misses p) ps × (AllByRecursion (λ q. Misses q p) ps × Distinct ps))
 
 abbrev all_test : (ℕ → Bool) → List ℕ → Bool
 all_test t [] = true
 all_test t (p ∷ ps) = t p && all_test t ps
 
-all_by_test : (t : ℕ → Bool) (P : ℕ → Type 0) → ((n : ℕ) → t n ≡ true → P n) → (ps : List ℕ) → all_test t ps ≡ true → All P ps
+all_by_test : (t : ℕ → Bool) (P : ℕ → Type 0) → ((n : ℕ) → t n ≡ true → P n) → (ps : List ℕ) → all_test t ps ≡ true → AllByRecursion P ps
 all_by_test t P f [] e = tt
 all_by_test t P f (p ∷ ps) e = let both = and_parts (t p) (all_test t ps) e in (f p both.0, all_by_test t P f ps both.1)
 

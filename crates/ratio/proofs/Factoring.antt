@@ -2,7 +2,7 @@
 -- Assumes nothing.
 use Rattle.std.proofs.Common.{◌≡◌, ℕ, zero, suc, ◌+◌, ◌*◌, ◌%◌, ◌^◌, ◌<◌, List, [], ◌∷◌, length, sym, refl, ap, ◌∙◌, subst, mod-eq_of_lt, mul_assoc, one-mul, arith, pow-add}
 use native.Mathlib.Nat.{mul-mod_right, pow-zero, pow-succ', eq_of_mul-eq-mul_left, zero-mod}
-use Rattle.std.specs.List.{AllByRecursion as All}
+use Rattle.std.specs.List.{AllByRecursion}
 use Rattle.ratio.specs.Products.{product}
 use Rattle.ratio.specs.Factors.{Misses}
 use Rattle.ratio.proofs.Divides.{Prime, Distinct}
@@ -18,7 +18,7 @@ pub miss_power : {p : ℕ} → Prime p → (q : ℕ) → Misses p q → (k : ℕ
 miss_power {p} prime q m zero = subst (Misses p) (sym (pow-zero q)) (misses_one prime)
 miss_power {p} prime q m (suc k) = subst (Misses p) (sym (pow-succ' q k)) (prime.miss_both q (q ^ k) m (miss_power prime q m k))
 
-pub miss_product : {p : ℕ} → Prime p → (ps ks : List ℕ) → All (Misses p) ps → Misses p (product ps ks)
+pub miss_product : {p : ℕ} → Prime p → (ps ks : List ℕ) → AllByRecursion (Misses p) ps → Misses p (product ps ks)
 miss_product prime [] ks m = misses_one prime
 miss_product prime (q ∷ ps) [] m = misses_one prime
 miss_product prime (q ∷ ps) (k ∷ ks) m = prime.miss_both (q ^ k) (product ps ks) (miss_power prime q m.0 k) (miss_product prime ps ks m.1)
@@ -40,7 +40,7 @@ one_prime {p} prime (suc j) (suc k) q r e mq mr =
     (ap suc less.0, less.1)
 
 pub same_product : (ps : List ℕ) → Distinct ps → (xs ys : List ℕ) → length xs ≡ length ps → length ys ≡ length ps → (u v : ℕ)
-    → All (λ p. Misses p u) ps → All (λ p. Misses p v) ps → product ps xs * u ≡ product ps ys * v → (xs ≡ ys) × (u ≡ v)
+    → AllByRecursion (λ p. Misses p u) ps → AllByRecursion (λ p. Misses p v) ps → product ps xs * u ≡ product ps ys * v → (xs ≡ ys) × (u ≡ v)
 same_product [] d [] [] lx ly u v mu mv e = (refl, sym (one-mul u) ∙ (e ∙ one-mul v))
 same_product [] d (x ∷ xs) ys lx ly u v mu mv e = absurd (omega arith)
 same_product [] d [] (y ∷ ys) lx ly u v mu mv e = absurd (omega arith)

@@ -4,7 +4,7 @@ use Rattle.std.proofs.Common.{◌≡◌, ℕ, zero, suc, ◌+◌, ◌*◌, ◌<�
 use native.Mathlib.Nat.{pow-le-pow_right}
 use lib.ListN.{length-map}
 use borrow.Author.Differences.{up, down, same_in}
-use Rattle.std.specs.List.{AllZip, AllByRecursion as All}
+use Rattle.std.specs.List.{AllZip, AllByRecursion}
 use Rattle.std.proofs.lemmas.Int.{ints}
 use Rattle.ratio.specs.Products.{product, primes, numerator, denominator}
 use Rattle.ratio.specs.Factors.{Without, Factored, minus}
@@ -111,7 +111,7 @@ downs_less [] (y ∷ ys) h = absurd (omega arith)
 downs_less (x ∷ xs) [] h = absurd (omega arith)
 downs_less (x ∷ xs) (y ∷ ys) h = (down_less x y, downs_less xs ys (omega arith))
 
-product_less : (ps ks ls : List ℕ) → All (λ p. 0 < p) ps → AllZip ◌≤◌ ks ls → product ps ks ≤ product ps ls
+product_less : (ps ks ls : List ℕ) → AllByRecursion (λ p. 0 < p) ps → AllZip ◌≤◌ ks ls → product ps ks ≤ product ps ls
 product_less [] ks ls some le = omega arith
 product_less (p ∷ ps) [] [] some le = omega arith
 product_less (p ∷ ps) [] (l ∷ ls) some le = absurd le
@@ -119,7 +119,7 @@ product_less (p ∷ ps) (k ∷ ks) [] some le = absurd le
 product_less (p ∷ ps) (k ∷ ks) (l ∷ ls) some le =
     mul-le-mul (pow-le-pow_right some.0 le.0) (product_less ps ks ls some.1 le.1)
 
-pub primes_some : All (λ p. 0 < p) primes
+pub primes_some : AllByRecursion (λ p. 0 < p) primes
 primes_some = (omega arith, (omega arith, (omega arith, (omega arith, (omega arith, (omega arith, tt))))))
 
 part_less : (zs ks : List ℕ) (m w : ℕ) → Factored m zs w → AllZip ◌≤◌ ks zs → product primes ks ≤ m

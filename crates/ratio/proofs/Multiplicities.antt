@@ -2,7 +2,7 @@
 use Rattle.std.proofs.Common.{◌≡◌, ℕ, zero, suc, ◌+◌, ◌*◌, ◌/◌, ◌%◌, ◌^◌, ◌<◌, ◌≤◌, List, [], ◌∷◌, ◌++◌, length, get_or, take, set, ℤ, pos, ◌-ℤ◌, sym, refl, ap, ◌∙◌, subst, ⊎_elim, mul-le-mul_right, mul_assoc, mul_comm, mul-le-mul_left, one-mul, pow-suc, mul-one, mul_left_comm, add-one, arith, length-set, length-take, pow_mono, pow-add, w8, to_z, of_z}
 use native.Mathlib.Nat.{mul-mod_right, div-add-mod}
 use Rattle.std.proofs.lemmas.Int.{ints}
-use Rattle.std.specs.List.{AllByRecursion as All}
+use Rattle.std.specs.List.{AllByRecursion}
 use Rattle.std.proofs.lemmas.Bool.{cases_lt}
 use Rattle.std.proofs.ByRecursion.{All-push, All-set, All-get_or}
 use Rattle.std.proofs.lemmas.List.{take_more, take_more_set, take_all, length-take-le}
@@ -92,7 +92,7 @@ pub record Apart (n : ℕ) (place : ℕ) (ks : List ℕ) (rest : ℕ) : Type 0 w
   pub six : length ks ≡ 6
   pub parts : n ≡ product (take place primes) (take place ks) * rest
   pub left : Without (take place primes) rest
-  pub few : All (λ k. k < 32) ks
+  pub few : AllByRecursion (λ k. k < 32) ks
   pub some : 0 < rest
   pub small : rest ≤ 4294967295
 

@@ -6,7 +6,7 @@ use Rattle.std.proofs.lemmas.Int.{ints, to_z-of_z}
 use Rattle.std.proofs.lemmas.Bool.{ltb-false, false≢true}
 use lib.ListN.{length-map}
 use borrow.Author.Differences.{up, down}
-use Rattle.std.specs.List.{AllByRecursion as All}
+use Rattle.std.specs.List.{AllByRecursion}
 use Rattle.std.proofs.ByRecursion.{All-take, All-get_or}
 use Rattle.std.proofs.lemmas.List.{take_more, take_all, length-take-le, get_or-map}
 use Rattle.ratio.specs.Products.{product, primes, numerator, denominator}
@@ -16,13 +16,13 @@ use Rattle.ratio.proofs.Limits.{ratio_within}
 use Rattle.ratio.proofs.Lowest.{primes_some}
 use Rattle.ratio.proofs.Multiplicities.{product_push}
 
-pub product_some : (ps ks : List ℕ) → All (λ p. 0 < p) ps → 1 ≤ product ps ks
+pub product_some : (ps ks : List ℕ) → AllByRecursion (λ p. 0 < p) ps → 1 ≤ product ps ks
 product_some [] ks some = omega arith
 product_some (p ∷ ps) [] some = omega arith
 product_some (p ∷ ps) (k ∷ ks) some = one-le-mul (one-le-pow k p some.0) (product_some ps ks some.1)
 
 -- the first factors make no more than all
-front_less : (i : ℕ) (ps ks : List ℕ) → All (λ p. 0 < p) ps → product (take i ps) (take i ks) ≤ product ps ks
+front_less : (i : ℕ) (ps ks : List ℕ) → AllByRecursion (λ p. 0 < p) ps → product (take i ps) (take i ks) ≤ product ps ks
 front_less zero ps ks some = product_some ps ks some
 front_less (suc i) [] ks some = omega arith
 front_less (suc i) (p ∷ ps) [] some = omega arith

@@ -1,7 +1,7 @@
 //! Entry of a ratio from two numbers.
 
 ghost use Rattle.std.specs.Prelude.{◌≡◌, ℕ, ◌*◌, ◌%◌, ◌^◌, ◌<◌, ◌≤◌, Result, ◌≢◌};
-ghost use Rattle.std.specs.List.{AllByRecursion as All};
+ghost use Rattle.std.specs.List.{AllByRecursion};
 ghost use Rattle.ratio.specs.Entry.{Entered};
 ghost use Rattle.ratio.specs.Computed.{entry};
 ghost use Rattle.ratio.specs.declared.fault.RatioFault.{RatioFault};
@@ -50,7 +50,7 @@ impl Factors {
     fn of(number: u64) -> Factors
         requires { (0 < number) × (number ≤ 4294967295) }
         ensures factored { Factored number result.multiplicities result.rest }
-        ensures few { All (λ k. k < 32) result.multiplicities }
+        ensures few { AllByRecursion (λ k. k < 32) result.multiplicities }
     {
         let mut multiplicities = [0; 6];
         let mut rest = number;
@@ -84,7 +84,7 @@ fn divided_out(number: u64, prime: u64) -> (u8, u64)
 
 /// Place by place, how much more often a prime divides above than below.
 fn differences(above: &[u8; 6], below: &[u8; 6]) -> [i8; 6]
-    requires { All (λ k. k < 32) above.now × All (λ k. k < 32) below.now }
+    requires { AllByRecursion (λ k. k < 32) above.now × AllByRecursion (λ k. k < 32) below.now }
     ensures { result ≡ minus above.now below.now }
 {
     let mut exponents = [0; 6];

@@ -17,7 +17,7 @@ use Rattle.command.specs.declared.fault.TextFault.{TextFault}
 use Rattle.session.proofs.Pages.{taken, left}
 use Rattle.session.specs.Answers.{barlow, replied, refusal_text, reply_text, scale_text, LineDone}
 use Rattle.session.specs.Faults.{session_refusal}
-use Rattle.session.specs.Following.{AllDone, Followed, HeardOne}
+use Rattle.session.specs.Following.{AllDone, HeardOne}
 use Rattle.session.specs.Obeying.{Obeyed, ToldAt}
 use Rattle.session.specs.Pages.{Put}
 use Rattle.session.specs.declared.fault.SessionFault.{SessionFault}

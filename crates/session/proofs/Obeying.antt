@@ -1,5 +1,5 @@
 -- A step that was taken by the book. Assumes nothing.
-use Rattle.std.proofs.Common.{◌≡◌, ℕ, true, List, is_err, Some, None, Ok, Err, Option, Result, sym, refl, subst}
+use Rattle.std.proofs.Common.{◌≡◌, ℕ, true, List, is_err, Some, None, Ok, Err, Option, Result, sym, subst}
 use Rattle.draft.specs.Book.{Book}
 use Rattle.settling.specs.Costings.{total}
 use Rattle.settling.specs.Promise.{AnsweredBy, Settling, ill_put}

@@ -2,7 +2,7 @@
 use Rattle.std.proofs.Common.{◌≡◌, ℕ, zero, suc, ◌+◌, ◌^◌, ◌<◌, ◌≤◌, List, [], ◌∷◌, ◌++◌, map, length, get_or, take, drop, ℤ, pos, ◌-ℤ◌, Some, None, codes, decimal, Option, unwrap_or, sym, refl, ap, ◌∙◌, append_assoc, arith, Bor, MatchOption}
 use Rattle.std.specs.Option.{option_map}
 use Rattle.std.proofs.lemmas.List.{get_or_past, length-map, length-take, take-append-drop}
-use Rattle.std.specs.List.{flat_map as gathered, slice_get}
+use Rattle.std.specs.List.{flat_map, slice_get}
 use Rattle.draft.specs.Book.{Noted, Book, candidates_of}
 use Rattle.draft.specs.Held.{noted, book_of}
 use Rattle.draft.specs.declared.draft.Draft.{Draft}
@@ -61,5 +61,5 @@ pub put_nothing : (out : List ℕ) (place : ℕ) → Put out place [] out place
 put_nothing out place = record { ended = omega arith; written = sym (take-append-drop place out) ∙ ap (λ k. take place out ++ drop k out) (omega arith) }
 
 -- one more of the lines
-pub lines_more : (f : ℕ → List ℕ) (n : ℕ) → gathered f (below n) ++ f n ≡ gathered f (below (n + 1))
-lines_more f n = sym (ap (gathered f) (below_more n) ∙ gathered_push f (below n) n)
+pub lines_more : (f : ℕ → List ℕ) (n : ℕ) → flat_map f (below n) ++ f n ≡ flat_map f (below (n + 1))
+lines_more f n = sym (ap (flat_map f) (below_more n) ∙ gathered_push f (below n) n)

@@ -1,6 +1,6 @@
 -- What is answered to a line, by the book of entries as it stands.
 use Rattle.std.specs.Prelude.{◌≡◌, ℕ, List, [], ◌∷◌, ◌++◌, map, length, ℤ, pos, ◌-ℤ◌, Ok, Err, codes, decimal, Result, slice_index, slice_index_or}
-use Rattle.std.specs.List.{flat_map as gathered}
+use Rattle.std.specs.List.{flat_map}
 use Rattle.refusal.specs.Texts.{refusal_line}
 use Rattle.refusal.specs.declared.Refusal.{Refusal}
 use Rattle.ratio.specs.Parts.{unison}
@@ -48,7 +48,7 @@ heading s = codes "scale " ++ (decimal s.cost ++ (codes " " ++ (decimal s.trials
 
 -- the answer that tells a scale: its first line, and a line for each tone
 abbrev pub scale_text : Book → List ℕ → Settled ℕ → List ℕ
-scale_text b sheet s = heading s ++ gathered (tone_line b sheet) (below (length b.tones))
+scale_text b sheet s = heading s ++ flat_map (tone_line b sheet) (below (length b.tones))
 
 -- the line of a refusal
 abbrev pub refusal_text : Refusal → List ℕ

@@ -1,6 +1,5 @@
 -- A session from its start: lines, and the answers to them.
 use Rattle.std.specs.Prelude.{◌≡◌, ℕ, ◌<◌, ◌≤◌, List, [], ◌∷◌, ◌++◌, length, take, drop, replicate, Ok, Err, codes, Result}
-use Rattle.std.specs.List.{flat_map}
 use Rattle.refusal.specs.declared.Refusal.{Refusal}
 use Rattle.draft.specs.Book.{Book, new_book}
 use Rattle.draft.specs.Held.{Holds}

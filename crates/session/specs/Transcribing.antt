@@ -1,5 +1,5 @@
 -- A whole input and what is answered to it.
-use Rattle.std.specs.Prelude.{◌≡◌, ℕ, ◌≤◌, List, [], ◌∷◌, ◌++◌, length, drop}
+use Rattle.std.specs.Prelude.{◌≡◌, ℕ, ◌≤◌, List, [], length, drop}
 use Rattle.std.specs.List.{flat_map}
 use Rattle.lines.specs.Hearing.{Heard, held}
 use Rattle.lines.specs.Splitting.{ended, open_line, all_lines}

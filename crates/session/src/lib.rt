@@ -1,4 +1,5 @@
 //! The session: lines of text in, answers out.
+#![tactic(auto)]
 
 mod blame;
 pub mod fault;

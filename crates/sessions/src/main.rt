@@ -1,4 +1,5 @@
 //! Plays stored sessions through the call for one line, and prints each line with its answer.
+#![tactic(auto)]
 
 use session::session::{ANSWER_ROOM, Session};
 use std::fs::File;

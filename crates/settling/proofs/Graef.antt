@@ -1,6 +1,6 @@
 -- The best choice by the sum of the distances is an admissible scale of the least average distance.
 use Rattle.std.proofs.Common.{◌≡◌, ℕ, zero, suc, ◌+◌, ◌-◌, ◌*◌, ◌^◌, ◌<◌, ◌≤◌, true, cond, eqb, List, [], ◌∷◌, map, length, get_or, fold, sum_by, sym, refl, ap, ◌∙◌, subst, ⊎_elim, mul-le-mul_right, mul-pos, le_of_mul-le-mul_right, arith}
-use Rattle.std.specs.List.{ContainsAt as Has, AllByRecursion as All}
+use Rattle.std.specs.List.{ContainsAt, AllByRecursion}
 use Rattle.std.proofs.lemmas.List.{same_lists, get_or_default, length-append, length-map}
 use Rattle.std.proofs.ByRecursion.{has_get_or, sum_by_le}
 use Rattle.std.proofs.lemmas.List.FromFn.{get_or-map-range_with_len, length-map-range_with_len, length-range_with_len}
@@ -16,7 +16,7 @@ use Rattle.settling.proofs.Costings.{sum_not_stopped}
 
 -- ---- sums over pairs
 
-sum_by_each : {A : Type 0} (f g : A → ℕ) (xs : List A) → All (λ x. f x ≡ g x) xs → sum_by f xs ≡ sum_by g xs
+sum_by_each : {A : Type 0} (f g : A → ℕ) (xs : List A) → AllByRecursion (λ x. f x ≡ g x) xs → sum_by f xs ≡ sum_by g xs
 sum_by_each f g [] h = refl
 sum_by_each f g (x ∷ xs) h = sum_by-cons f x xs ∙ omega (arith, h.0, sum_by_each f g xs h.1, sum_by-cons g x xs)
 
@@ -94,7 +94,7 @@ module _ {R : Type 0} (none : R) where
       at_each zero l = is
       at_each (suc i) l = rest.same i (omega arith)
 
-  numbers_of : (tones : List (List R)) (xs : List R) → length xs ≡ length tones → ((i : ℕ) → i < length xs → Has (get_or tones i []) (get_or xs i none)) → Numbers tones xs
+  numbers_of : (tones : List (List R)) (xs : List R) → length xs ≡ length tones → ((i : ℕ) → i < length xs → ContainsAt (get_or tones i []) (get_or xs i none)) → Numbers tones xs
   numbers_of [] [] e h = record { numbers = []; choice = record { full = refl; listed = λ i l. absurd (omega arith) }; same = λ i l. absurd (omega arith) }
   numbers_of [] (x ∷ xs) e h = absurd (omega arith)
   numbers_of (cs ∷ tones) [] e h = absurd (omega arith)
@@ -113,7 +113,7 @@ module _ {R : Type 0} (p : Problem R) (none : R) where
   pub choice_scale : (s : List ℕ) → Choice p.candidates s → Scale p none (pitches p none s)
   choice_scale s ch = record {
     full = length_pitches s ∙ ch.full;
-    listed = λ i h. let h' : i < length s = omega (arith, length_pitches s) in subst (Has (get_or p.candidates i [])) (sym (pitch_at s i h')) (has_get_or (get_or p.candidates i []) (get_or s i 0) none (ch.listed i h'));
+    listed = λ i h. let h' : i < length s = omega (arith, length_pitches s) in subst (ContainsAt (get_or p.candidates i [])) (sym (pitch_at s i h')) (has_get_or (get_or p.candidates i []) (get_or s i 0) none (ch.listed i h'));
   }
 
   -- and every scale is laid by some choice

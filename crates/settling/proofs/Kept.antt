@@ -1,6 +1,6 @@
 -- Bounds and cost: as relations, and of a start with one number more.
 use Rattle.std.proofs.Common.{◌≡◌, ℕ, ◌<◌, ◌≤◌, true, leb, List, [], ◌∷◌, ◌++◌, map, length, get_or, fold, sym, refl, ap, ◌∙◌, subst, ⊎_elim, arith}
-use Rattle.std.specs.List.{AllByRecursion as All}
+use Rattle.std.specs.List.{AllByRecursion}
 use Rattle.std.proofs.lemmas.List.{append_assoc, append-nil, length_push, length-append, get_or_append_left}
 use Rattle.std.proofs.lemmas.Bool.{leb-true, le-leb, cases_lt}
 use Rattle.settling.specs.Settling.{Costing, Lawful, Problem, below, pairs, laid, apart, keeps, cost}
@@ -16,7 +16,7 @@ pub folded_map : {A B C : Type 0} (f : B → A → B) (g : C → A) (b : B) (zs 
 folded_map f g b [] = refl
 folded_map f g b (z ∷ zs) = folded_map f g (f b (g z)) zs
 
-pub folded_same : {A B : Type 0} (f g : B → A → B) (b : B) (xs : List A) → All (λ x. (b : B) → f b x ≡ g b x) xs → fold f b xs ≡ fold g b xs
+pub folded_same : {A B : Type 0} (f g : B → A → B) (b : B) (xs : List A) → AllByRecursion (λ x. (b : B) → f b x ≡ g b x) xs → fold f b xs ≡ fold g b xs
 folded_same f g b [] h = refl
 folded_same f g b (x ∷ xs) h = ap (λ z. fold f z xs) (h.0 b) ∙ folded_same f g (g b x) xs h.1
 

@@ -1,6 +1,6 @@
 -- Gräf's words: a scale takes one pitch from the candidates of each tone, is admissible if all distances keep their bounds, and has an average distance.
 use Rattle.std.specs.Prelude.{◌≡◌, ℕ, ◌-◌, ◌*◌, ◌<◌, ◌≤◌, true, cond, List, [], map, length, sum_by, ◌==◌, ◌≢◌, nat_le, slice_index_or}
-use Rattle.std.specs.List.{ContainsAt as Has}
+use Rattle.std.specs.List.{ContainsAt}
 use Rattle.settling.specs.Costings.{total}
 use Rattle.settling.specs.Settling.{Problem, Choice, below, laid, keeps, cost}
 
@@ -13,7 +13,7 @@ module _ {R : Type 0} (p : Problem R) (none : R) where
   -- A scale has one pitch for each tone, and it is one of the tone's candidates.
   pub record Scale (xs : List R) : Type 0 where
     pub full : length xs ≡ length p.candidates
-    pub listed : (i : ℕ) → i < length xs → Has (slice_index_or p.candidates i []) (slice_index_or xs i none)
+    pub listed : (i : ℕ) → i < length xs → ContainsAt (slice_index_or p.candidates i []) (slice_index_or xs i none)
 
   -- A scale is admissible if each two of its pitches are no further apart than their bound.
   pub record Admissible (xs : List R) : Type 0 where

@@ -1,6 +1,6 @@
 -- What it is to settle a scale: choices, their bounds and cost, live starts, trials and the best choice.
 use Rattle.std.specs.Prelude.{◌≡◌, ℕ, ◌<◌, Bool, true, false, cond, not, ◌&&◌, ◌||◌, ◌⊎◌, List, [], ◌∷◌, map, length, take, fold, sum_by, ◌==◌, ◌≢◌, nat_le, nat_lt, slice_index, slice_index_or}
-use Rattle.std.specs.List.{range_with_len, flat_map as gathered}
+use Rattle.std.specs.List.{range_with_len, flat_map}
 
 -- A costing has a value nil, a value for each distance, a joining of two values, and a comparison.
 pub record Costing (V : Type 0) : Type 0 where
@@ -37,7 +37,7 @@ below n = range_with_len 0 n
 
 -- The pairs of n tones, each once, the earlier tone first.
 abbrev pub pairs : ℕ → List (ℕ × ℕ)
-pairs n = gathered (λ j. map (λ i. (i, j)) (below j)) (below n)
+pairs n = flat_map (λ j. map (λ i. (i, j)) (below j)) (below n)
 
 -- A choice has one number for each of these tones, and it is the number of one of the tone's candidates.
 pub record Choice {R : Type 0} (tones : List (List R)) (s : List ℕ) : Type 0 where
@@ -47,7 +47,7 @@ pub record Choice {R : Type 0} (tones : List (List R)) (s : List ℕ) : Type 0 w
 -- All choices for these tones, in list order.
 abbrev pub choices : {R : Type 0} → List (List R) → List (List ℕ)
 choices [] = [] ∷ []
-choices (cs ∷ tones) = gathered (λ n. map (λ s. n ∷ s) (choices tones)) (below (length cs))
+choices (cs ∷ tones) = flat_map (λ n. map (λ s. n ∷ s) (choices tones)) (below (length cs))
 
 -- List order compares the first numbers, then the second ones, and so on.
 abbrev pub before : List ℕ → List ℕ → Bool

@@ -1,6 +1,6 @@
 -- The distance by weights is bounded, by the weights' limits and the ratios' limits.
 use Rattle.std.proofs.Common.{◌≡◌, ℕ, ◌≤◌, List, length, take, ap, arith, take_all}
-use Rattle.std.specs.List.{AllByRecursion as All}
+use Rattle.std.specs.List.{AllByRecursion}
 use Rattle.std.proofs.ByRecursion.{All-from_get_or}
 use Rattle.ratio.specs.declared.ratio.Ratio.{Ratio}
 use Rattle.ratio.specs.Limits.{limits}
@@ -8,7 +8,7 @@ use Rattle.ratio.proofs.Limits.{ratio_within}
 use Rattle.measure.specs.Weights.{Allowed, weighted, weighted_distance}
 use Rattle.measure.specs.Laws.Sums.{weighted_within}
 
-small : (ws : List ℕ) → Allowed ws → All (λ w. w ≤ 1000000) ws
+small : (ws : List ℕ) → Allowed ws → AllByRecursion (λ w. w ≤ 1000000) ws
 small ws allowed = All-from_get_or (λ w. w ≤ 1000000) ws 0 (λ i h. (allowed i h).1)
 
 -- over some of the primes the distance is at most 184,000,000

@@ -1,7 +1,7 @@
 -- The sum of weights times distances, place by place: it is a distance, it is bounded, and it tells lists apart.
 use Rattle.std.specs.Prelude.{◌≡◌, ℕ, zero, suc, ◌+◌, ◌*◌, ◌<◌, ◌≤◌, List, [], ◌∷◌, length, take, ℤ, pos, slice_index, slice_index_or, refl}
 use Rattle.std.proofs.Common.{mul-zero, mul-add, mul-le-mul, mul-le-mul_left, mul-le-mul_right, add-one, arith}
-use Rattle.std.specs.List.{AllByRecursion as All}
+use Rattle.std.specs.List.{AllByRecursion}
 use Rattle.ratio.specs.Limits.{Within}
 use Rattle.measure.specs.Apart.{apart}
 use Rattle.measure.specs.Weights.{weighted}
@@ -27,7 +27,7 @@ weighted_triangle (w ∷ ws) (x ∷ xs) [] (z ∷ zs) h = absurd (omega arith)
 weighted_triangle (w ∷ ws) (x ∷ xs) (y ∷ ys) (z ∷ zs) h =
     omega (arith, mul-le-mul_left w (apart_triangle x y z), mul-add w (apart x y) (apart y z), weighted_triangle ws xs ys zs (omega arith))
 
-pub weighted_only_zero : (ws : List ℕ) (xs ys : List ℤ) → All (λ w. 1 ≤ w) ws → length xs ≡ length ws → length ys ≡ length ws → weighted ws xs ys ≡ 0 → xs ≡ ys
+pub weighted_only_zero : (ws : List ℕ) (xs ys : List ℤ) → AllByRecursion (λ w. 1 ≤ w) ws → length xs ≡ length ws → length ys ≡ length ws → weighted ws xs ys ≡ 0 → xs ≡ ys
 weighted_only_zero [] [] [] some h i none = refl
 weighted_only_zero [] [] (y ∷ ys) some h i none = absurd (omega arith)
 weighted_only_zero [] (x ∷ xs) ys some h i none = absurd (omega arith)
@@ -44,7 +44,7 @@ largest [] = 0
 largest (l ∷ ls) = 1000000 * (l + l) + largest ls
 
 -- over some of the places the sum is within the largest
-pub weighted_within : (k : ℕ) (ws : List ℕ) (xs ys : List ℤ) (ls : List ℕ) → All (λ w. w ≤ 1000000) ws → length xs ≤ length ls → Within ls xs → Within ls ys
+pub weighted_within : (k : ℕ) (ws : List ℕ) (xs ys : List ℤ) (ls : List ℕ) → AllByRecursion (λ w. w ≤ 1000000) ws → length xs ≤ length ls → Within ls xs → Within ls ys
     → weighted (take k ws) xs ys ≤ largest ls
 weighted_within zero ws xs ys ls small n h i = omega arith
 weighted_within (suc k) [] xs ys ls small n h i = omega arith

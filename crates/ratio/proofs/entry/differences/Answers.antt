@@ -1,11 +1,11 @@
 use Rattle.std.proofs.Common.{◌≡◌, ℕ, ◌<◌, List, length, get_or, ◌∙◌, arith, length-set, take_all}
-use Rattle.std.specs.List.{AllByRecursion as All}
+use Rattle.std.specs.List.{AllByRecursion}
 use Rattle.std.proofs.ByRecursion.{All-get_or}
 use Rattle.std.proofs.lemmas.Int.{ints}
 use Rattle.ratio.proofs.Multiplicities.{minus_more, small_difference}
 use Rattle.ratio.proofs.entry.differences.Goals as goal
 
-few : (ks : List ℕ) (i : ℕ) → All (λ k. k < 32) ks → length ks ≡ 6 → i < 6 → get_or ks i 0 < 32
+few : (ks : List ℕ) (i : ℕ) → AllByRecursion (λ k. k < 32) ks → length ks ≡ 6 → i < 6 → get_or ks i 0 < 32
 few ks i all l h = All-get_or (λ k. k < 32) ks i 0 (omega arith) all
 
 pub overflow_cast-exponents : goal.overflow_cast-exponents

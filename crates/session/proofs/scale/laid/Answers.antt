@@ -1,6 +1,5 @@
-use Rattle.std.proofs.Common.{◌≡◌, [], get_or, unwrap_or, sym, refl, ap, ◌∙◌}
+use Rattle.std.proofs.Common.{◌≡◌, [], get_or, unwrap_or, ap, ◌∙◌}
 use Rattle.ratio.specs.Parts.{unison}
-use Rattle.std.specs.Option.{option_map}
 use Rattle.session.proofs.Scaling.{candidates_read, lent_or}
 use Rattle.session.proofs.scale.laid.Goals as goal
 

@@ -1,5 +1,4 @@
-use Rattle.std.proofs.Common.{[], ◌∷◌, ◌++◌, codes, decimal, append_assoc, arith}
-use Rattle.std.proofs.lemmas.Fmt.{length-decimal-le}
+use Rattle.std.proofs.Common.{[], ◌∷◌, codes, decimal, arith}
 use Rattle.session.proofs.Pages.{put, then, as_text}
 use Rattle.session.proofs.Scaling.{number_short, heading_pieces}
 use Rattle.session.proofs.scale.put_heading.Goals as goal

@@ -1,8 +1,8 @@
-use Rattle.std.proofs.Common.{◌≡◌, ◌≤◌, ◌++◌, length, sym, ap, ◌∙◌, arith}
+use Rattle.std.proofs.Common.{◌≡◌, ◌≤◌, ◌++◌, length, ap, arith}
 use Rattle.draft.proofs.Holding.{held_book}
 use Rattle.draft.specs.Held.{book_of}
 use Rattle.settling.specs.Settling.{below}
-use Rattle.std.specs.List.{flat_map as gathered}
+use Rattle.std.specs.List.{flat_map}
 use Rattle.session.specs.Answers.{tone_line, heading}
 use Rattle.session.proofs.Pages.{then, as_text}
 use Rattle.session.proofs.Scaling.{few_held, put_nothing, lines_more}
@@ -30,6 +30,6 @@ returns c =
     record {
       put = λ b h.
           let all : c.loop-tone.tone ≡ length b.tones = omega (arith, c.loop-tone-test.false, c.loop-tone.auto.tone-end, c.tones-tone-end.ensures.by_book b h) in
-          as_text (ap (λ n. heading c.args.settled ++ gathered (tone_line b c.args.sheet.now) (below n)) all) (then (omega arith) c.put_heading-place.ensures.put (c.loop-tone.invariant.1 b h));
+          as_text (ap (λ n. heading c.args.settled ++ flat_map (tone_line b c.args.sheet.now) (below n)) all) (then (omega arith) c.put_heading-place.ensures.put (c.loop-tone.invariant.1 b h));
       fits = omega (arith, c.loop-tone.invariant.0, c.put_heading-place.ensures.fits);
     }

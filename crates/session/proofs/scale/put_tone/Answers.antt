@@ -1,4 +1,4 @@
-use Rattle.std.proofs.Common.{◌≡◌, ◌≤◌, [], ◌∷◌, ◌++◌, length, ◌-ℤ◌, codes, sym, refl, ap, ◌∙◌, arith, w32, w64, to_z, of_z}
+use Rattle.std.proofs.Common.{[], ◌∷◌, length, ◌-ℤ◌, codes, ap, ◌∙◌, arith, w32, w64, to_z, of_z}
 use Rattle.std.proofs.lemmas.Int.{to_z-of_z}
 use Rattle.ratio.specs.Pitches.{ratio_pitch}
 use Rattle.ratio.specs.Printing.{ratio_text}

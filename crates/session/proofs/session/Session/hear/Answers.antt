@@ -1,4 +1,4 @@
-use Rattle.std.proofs.Common.{◌≡◌, ℕ, [], ◌∷◌, ◌++◌, length, get_or, take, Ok, Err, sym, refl, ap, ◌∙◌, subst, arith, length-append, rules}
+use Rattle.std.proofs.Common.{[], ◌∷◌, Ok, Err, refl, ap, subst, arith, length-append, rules}
 use Rattle.draft.proofs.Holding.{held_book}
 use Rattle.draft.specs.Held.{book_of}
 use Rattle.refusal.specs.Texts.{refusal_line}

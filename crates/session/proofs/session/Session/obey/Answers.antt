@@ -1,11 +1,10 @@
-use Rattle.std.proofs.Common.{◌≡◌, Ok, Err, sym, refl, ap, ◌∙◌, subst}
+use Rattle.std.proofs.Common.{Err, sym, refl, ap, ◌∙◌}
 use Rattle.std.proofs.lemmas.Result.{err_from_is_err_and}
 use Rattle.std.proofs.lemmas.Bool.{false≢true}
 use Rattle.draft.proofs.Holding.{held_book}
 use Rattle.draft.specs.Held.{book_of}
 use Rattle.settling.proofs.Runs.{by_entry, by_settling}
 use Rattle.settling.specs.Costings.{total}
-use Rattle.settling.specs.Promise.{Settling}
 use Rattle.settling.specs.declared.step.Answer.TheVariants.{Entered as EnteredAnswer, Settled as SettledAnswer}
 use Rattle.session.specs.Answers.{barlow, replied}
 use Rattle.session.proofs.Obeying.{obeyed, unsettled}

@@ -1,4 +1,4 @@
-use Rattle.std.proofs.Common.{◌≡◌, length, ap, subst, rules}
+use Rattle.std.proofs.Common.{◌≡◌, length, subst, rules}
 use Rattle.measure.specs.Weights.{weighted_distance}
 use Rattle.settling.specs.Costings.{total}
 use Rattle.settling.specs.Promise.{Settling}

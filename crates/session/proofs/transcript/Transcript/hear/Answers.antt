@@ -1,4 +1,4 @@
-use Rattle.std.proofs.Common.{◌≡◌, [], ◌∷◌, ◌++◌, take, sym, refl, ap, ◌∙◌, subst, append-nil, arith}
+use Rattle.std.proofs.Common.{[], ◌∷◌, ◌++◌, take, sym, refl, ap, ◌∙◌, subst, append-nil, arith}
 use Rattle.lines.specs.Hearing.{held}
 use Rattle.lines.specs.Splitting.{ended, open_line}
 use Rattle.session.specs.Following.{Followed}
