@@ -1,4 +1,4 @@
-use Rattle.std.proofs.Common.{◌≡◌, ℕ, ◌<◌, ◌≤◌, length, Err, sym, subst, arith, rules}
+use Rattle.std.proofs.Common.{◌≡◌, ◌≢◌, ℕ, ◌<◌, ◌≤◌, length, Err, sym, subst, arith, rules}
 use Rattle.ratio.specs.Products.{numerator, denominator}
 use Rattle.ratio.specs.Entry.{PartsFit, Quotient, Entered}
 use Rattle.ratio.specs.declared.fault.RatioFault.TheVariants.{PartTooLarge, PrimeLeft}
@@ -21,9 +21,10 @@ pub returns-then-above-below : goal.returns-then-above-below
 returns-then-above-below c =
     let n = c.args.numerator in
     let d = c.args.denominator in
+    let apart : c.of-above.result.rest ≢ c.of-below.result.rest = search rules in
     let left : Entered n d (Err PrimeLeft) = (
       parts-fit (omega arith) (omega arith) (omega arith) (omega arith),
-      λ e six q. c.if-above-below.true (rests_same n d _ _ _ _ c.of-above.ensures.factored c.of-below.ensures.factored e six q),
+      λ e six q. apart (rests_same n d _ _ _ _ c.of-above.ensures.factored c.of-below.ensures.factored e six q),
     ) in
     record { entered = left; only = λ s h. entered_once n d s (Err PrimeLeft) h left; value = entry_is n d (Err PrimeLeft) left }
 
