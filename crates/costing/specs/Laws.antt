@@ -1,2 +1,2 @@
--- Why the laws of a costing hold of the bench's costings: a lemma, with its proof. Only the laws of an `impl` cite it.
+-- Why the laws of a costing hold of the bench's costings: a lemma, with its proof. No contract cites it, only proofs and the laws of an `impl`.
 pub mod Added

@@ -13,6 +13,6 @@ rows b = map (λ n. n.candidates) b.tones
 abbrev pub problem : (Ratio → Ratio → ℕ) → Book → Problem Ratio
 problem distance b = record { candidates = rows b; distance = distance; bound = b.bound }
 
--- what a costing of the bench means, by its four ghost members
+-- what a costing of the bench means, by its four ghost members that are no laws
 abbrev pub meant : {S V : Type 0} → Ghosts S V → Costing V
 meant c = record { nil = c.nil; worth = c.worth; join = c.join; no_more = c.within }
