@@ -64,6 +64,15 @@ module _ {V : Type 0} (dist : Ratio → Ratio → ℕ) (c : Costing V) (d : Draf
   pub beaten_none : (s : Search V) → s.best ≡ None → (n : ℕ) → beaten c (seen n s.best s.sheet) v ≡ false
   beaten_none s e n = ap (λ o. beaten c (seen n o s.sheet) v) e
 
+  -- a start that costs no less than the best so far may be left at once: nothing below it changes what is found
+  pub went_beaten : (s : Search V) (best : V) → s.best ≡ Some best → c.no_more best v ≡ true → s.trials ≤ allowance → Went dist c d allowance k v s s
+  went_beaten s best e more within = record {
+    laid = refl;
+    numbers = refl;
+    within = within;
+    finds = λ b h. sym (explore_beaten (problem dist b) c (drop k (rows b)) (take k s.laid) (take k s.numbers) v (found (length b.tones) s) (beaten_some s best e (length b.tones) ∙ more));
+  }
+
   pub went_end : (s : Search V) → ((n : ℕ) → beaten c (seen n s.best s.sheet) v ≡ false) → ((b : Book) → Holds d b → candidates_in b k ≡ None) → s.trials ≤ allowance → k ≤ d.count
       → Went dist c d allowance k v s (record { laid = s.laid; numbers = s.numbers; best = Some v; sheet = s.numbers; trials = s.trials })
   went_end s unbeaten none within few = record {
