@@ -128,3 +128,7 @@ entry_entered (suc n) (suc d) =
 -- and so it is the only one
 pub entry_is : (n d : ℕ) (r : Result Ratio RatioFault) → Entered n d r → r ≡ entry n d
 entry_is n d r entered = entered_once n d r (entry n d) entered (entry_entered n d)
+
+-- two numbers of which one is too large, and neither is 0
+pub entry_large : (n d : ℕ) → 0 < n → 0 < d → (4294967295 < n) ⊎ (4294967295 < d) → Err PartTooLarge ≡ entry n d
+entry_large n d n_some d_some over = entry_is n d (Err PartTooLarge) (n_some, d_some, over)

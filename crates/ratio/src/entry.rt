@@ -23,6 +23,7 @@ impl Ratio {
     ///
     /// Refuses a part that is 0, then a part over 4,294,967,295, then a quotient in which a prime above 13 is left
     /// after common factors are cancelled: 34/17 is 2/1, and 17/16 is refused.
+    #[tactic(auto, using(crate::proofs::Entered::entered_once, crate::proofs::Computed::entry_large))]
     pub fn new(numerator: u64, denominator: u64) -> Result<Ratio, RatioFault>
         ensures entered { Entered numerator denominator result }
         ensures only { (s : Result Ratio RatioFault) → Entered numerator denominator s → s ≡ result }

@@ -17,6 +17,19 @@ returns-in_default c =
     let names : Named line (Err NoRatioWord) = (omega arith, c.in_default.ensures.form) in
     record { names = names; only = only_named line (Err NoRatioWord) names; again = printed_named line (Err NoRatioWord) names }
 
+-- It stands before the answer for a refusal, since a wrong body is told of at the first answer that fails.
+pub returns : goal.returns
+returns c =
+    let line = c.args.line.now in
+    let r = c.in_ok-new.field-0 in
+    let names : Named line (Ok r) = record {
+      parts = (c.in-Some.numerator, c.in-Some.denominator);
+      short = omega arith;
+      read = c.in-Some.ensures.form;
+      entered = c.in_ok-new.ensures.entered;
+    } in
+    record { names = names; only = only_named line (Ok r) names; again = printed_named line (Ok r) names }
+
 pub returns-in_err-new : goal.returns-in_err-new
 returns-in_err-new c =
     let line = c.args.line.now in
@@ -29,15 +42,3 @@ returns-in_err-new c =
       entered = c.in_err-new.ensures.entered;
     }) in
     record { names = names; only = only_named line c.from_residual.result names; again = printed_named line c.from_residual.result names }
-
-pub returns : goal.returns
-returns c =
-    let line = c.args.line.now in
-    let r = c.in_ok-new.field-0 in
-    let names : Named line (Ok r) = record {
-      parts = (c.in-Some.numerator, c.in-Some.denominator);
-      short = omega arith;
-      read = c.in-Some.ensures.form;
-      entered = c.in_ok-new.ensures.entered;
-    } in
-    record { names = names; only = only_named line (Ok r) names; again = printed_named line (Ok r) names }

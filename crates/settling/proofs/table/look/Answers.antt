@@ -1,4 +1,4 @@
-use Rattle.std.proofs.Common.{◌≡◌, ◌+◌, ◌<◌, ◌≤◌, refl, ◌∙◌, subst}
+use Rattle.std.proofs.Common.{◌≡◌, ◌+◌, ◌<◌, ◌≤◌, refl, ◌∙◌, subst, arith}
 use Rattle.draft.specs.Book.{Book}
 use Rattle.draft.specs.Held.{Holds, book_of}
 use Rattle.draft.proofs.Holding.{held_book}
@@ -36,7 +36,10 @@ returns-then-apart-bound g c =
     let d = c.args.draft.now in
     let e = c.args.low.tone in
     let k = c.args.high.tone in
-    let over = λ (b : Book) (h : Holds d b). subst (λ a. b.bound e k < a) c.distance-apart.ensures (subst (λ x. x < c.distance-apart.result) (bound_read d b h e k c.in_ok-bound.bound c.requires.pair.order c.requires.there (c.in_ok-bound.ensures.by_book b h)) c.if-apart-bound.true) in
+    let over = λ (b : Book) (h : Holds d b).
+    let bound : c.in_ok-bound.bound ≡ b.bound e k = bound_read d b h e k c.in_ok-bound.bound c.requires.pair.order c.requires.there (c.in_ok-bound.ensures.by_book b h) in
+    let far : b.bound e k < dist c.args.lower.now c.args.upper.now = omega (arith, bound, c.distance-apart.ensures, c.if-apart-bound.true) in
+    far in
     record {
       told = over;
       tabled = tabled_more dist d c.args.cells.now c.args.low c.args.lower.now c.args.high c.args.upper.now c.requires 1 (λ b h. noted_broken (dist c.args.lower.now c.args.upper.now) (b.bound e k) (over b h));
@@ -52,7 +55,10 @@ returns g c =
     let e = c.args.low.tone in
     let k = c.args.high.tone in
     let apart = c.distance-apart.result in
-    let within = λ (b : Book) (h : Holds d b). subst (λ x. apart ≤ x) (bound_read d b h e k c.in_ok-bound.bound c.requires.pair.order c.requires.there (c.in_ok-bound.ensures.by_book b h)) c.if-apart-bound.false in
+    let within = λ (b : Book) (h : Holds d b).
+    let bound : c.in_ok-bound.bound ≡ b.bound e k = bound_read d b h e k c.in_ok-bound.bound c.requires.pair.order c.requires.there (c.in_ok-bound.ensures.by_book b h) in
+    let near : apart ≤ b.bound e k = omega (arith, bound, c.if-apart-bound.false) in
+    near in
     record {
       told = λ b h. (c.distance-apart.ensures, subst (λ a. a ≤ b.bound e k) c.distance-apart.ensures (within b h));
       tabled = tabled_more dist d c.args.cells.now c.args.low c.args.lower.now c.args.high c.args.upper.now c.requires (2147483648 + apart) (λ b h. noted_within apart (b.bound e k) (within b h) ∙ subst (λ a. coded apart (b.bound e k) ≡ coded a (b.bound e k)) c.distance-apart.ensures refl);

@@ -10,6 +10,26 @@ use Rattle.draft.proofs.Holding.{held_count, held_candidates, tone_replaced, ton
 use Rattle.draft.proofs.Refusals.{try_faulty, try_absent, try_full, try_taken}
 use Rattle.draft.proofs.draft.Draft.try_ratio.Goals as goal
 
+-- It stands first, since a wrong body is told of at the first answer that fails.
+pub returns : goal.returns
+returns c =
+    let d = c.args.self.now in
+    let t = c.args.tone in
+    let n = c.args.numerator in
+    let m = c.args.denominator in
+    let r = c.in_ok-ratio.ratio in
+    let x = get_or d.tones t c.index-self-tone.result in
+    let within = c.if-tone-self.false in
+    let value : entry n m ≡ Ok r = sym c.in_ok-ratio.ensures.value in
+    let done = c.in_ok-add.ensures.cases in
+    let room = done.0 in
+    let more = done.1.listed ∙ ap (λ e. listed x ++ entered_ratio e) (sym value) in
+    record {
+      by_book = taken_by d _ (Try t n m)
+          (λ b h. try_taken b t n m r value (omega (arith, held_count d b h)) (omega (arith, room, ap length (held_candidates d b h t x within (tone_read d t _ within)))))
+          (λ b h. tone_replaced d _ b h t x c.add.new.self (λ cs. cs ++ entered_ratio (entry n m)) within (tone_read d t _ within) done.1.pitch more refl refl refl);
+    }
+
 pub returns-in_err-ratio : goal.returns-in_err-ratio
 returns-in_err-ratio c =
     let d = c.args.self.now in
@@ -43,23 +63,4 @@ returns-in_err-add c =
     record {
       by_book = subst (ByBook d d (Try t n m)) (sym (p.1 ∙ ap Err (p.2 ∙ why.0))) (refused_by d (Try t n m) CandidatesFull (λ b h.
           try_full b t n m c.in_ok-ratio.ratio (sym c.in_ok-ratio.ensures.value) (omega (arith, held_count d b h)) (omega (arith, over, ap length (held_candidates d b h t x within (tone_read d t _ within))))));
-    }
-
-pub returns : goal.returns
-returns c =
-    let d = c.args.self.now in
-    let t = c.args.tone in
-    let n = c.args.numerator in
-    let m = c.args.denominator in
-    let r = c.in_ok-ratio.ratio in
-    let x = get_or d.tones t c.index-self-tone.result in
-    let within = c.if-tone-self.false in
-    let value : entry n m ≡ Ok r = sym c.in_ok-ratio.ensures.value in
-    let done = c.in_ok-add.ensures.cases in
-    let room = done.0 in
-    let more = done.1.listed ∙ ap (λ e. listed x ++ entered_ratio e) (sym value) in
-    record {
-      by_book = taken_by d _ (Try t n m)
-          (λ b h. try_taken b t n m r value (omega (arith, held_count d b h)) (omega (arith, room, ap length (held_candidates d b h t x within (tone_read d t _ within)))))
-          (λ b h. tone_replaced d _ b h t x c.add.new.self (λ cs. cs ++ entered_ratio (entry n m)) within (tone_read d t _ within) done.1.pitch more refl refl refl);
     }

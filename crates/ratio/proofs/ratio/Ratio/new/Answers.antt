@@ -1,7 +1,7 @@
 use Rattle.std.proofs.Common.{◌≡◌, ◌≢◌, ℕ, ◌<◌, ◌≤◌, length, Err, sym, subst, arith, rules}
 use Rattle.ratio.specs.Products.{numerator, denominator}
 use Rattle.ratio.specs.Entry.{PartsFit, Quotient, Entered}
-use Rattle.ratio.specs.declared.fault.RatioFault.TheVariants.{PartTooLarge, PrimeLeft}
+use Rattle.ratio.specs.declared.fault.RatioFault.TheVariants.{PrimeLeft}
 use Rattle.ratio.proofs.Entered.{entered_once}
 use Rattle.ratio.proofs.Computed.{entry_is}
 use Rattle.ratio.proofs.Lowest.{minus_six, rests_same, quotient_is, numerator_less, denominator_less}
@@ -9,13 +9,6 @@ use Rattle.ratio.proofs.ratio.Ratio.new.Goals as goal
 
 parts-fit : {n d : ℕ} → 0 < n → 0 < d → n ≤ 4294967295 → d ≤ 4294967295 → PartsFit n d
 parts-fit a b p q = record { numerator_some = a; denominator_some = b; numerator_small = p; denominator_small = q }
-
-pub returns-then-numerator-gt-LARGEST_PART : goal.returns-then-numerator-gt-LARGEST_PART
-returns-then-numerator-gt-LARGEST_PART c =
-    let n = c.args.numerator in
-    let d = c.args.denominator in
-    let large : Entered n d (Err PartTooLarge) = search rules in
-    record { entered = large; only = λ s h. entered_once n d s (Err PartTooLarge) h large; value = entry_is n d (Err PartTooLarge) large }
 
 pub returns-then-above-below : goal.returns-then-above-below
 returns-then-above-below c =
@@ -28,6 +21,15 @@ returns-then-above-below c =
     ) in
     record { entered = left; only = λ s h. entered_once n d s (Err PrimeLeft) h left; value = entry_is n d (Err PrimeLeft) left }
 
+-- It stands before the invariant, since a wrong body is told of at the first answer that fails.
+pub returns : goal.returns
+returns c =
+    let n = c.args.numerator in
+    let d = c.args.denominator in
+    let fair : PartsFit n d = parts-fit (omega arith) (omega arith) (omega arith) (omega arith) in
+    let quotient = subst (Quotient n d) (sym c.differences.ensures) (quotient_is n d _ _ _ _ c.of-above.ensures.factored c.of-below.ensures.factored c.if-above-below.false) in
+    record { entered = (fair, quotient); only = λ s h. entered_once n d s _ h (fair, quotient); value = entry_is n d _ (fair, quotient) }
+
 pub invariant_of-result : goal.invariant_of-result
 invariant_of-result c =
     let n = c.args.numerator in
@@ -38,11 +40,3 @@ invariant_of-result c =
     let up_to : numerator c.differences.result ≤ n = subst (λ e. numerator e ≤ n) is (numerator_less n d _ _ _ _ above below) in
     let down_to : denominator c.differences.result ≤ d = subst (λ e. denominator e ≤ d) is (denominator_less n d _ _ _ _ above below) in
     record { six = subst (λ e. length e ≡ 6) is (minus_six n d _ _ _ _ above below); numerator_fits = omega arith; denominator_fits = omega arith }
-
-pub returns : goal.returns
-returns c =
-    let n = c.args.numerator in
-    let d = c.args.denominator in
-    let fair : PartsFit n d = parts-fit (omega arith) (omega arith) (omega arith) (omega arith) in
-    let quotient = subst (Quotient n d) (sym c.differences.ensures) (quotient_is n d _ _ _ _ c.of-above.ensures.factored c.of-below.ensures.factored c.if-above-below.false) in
-    record { entered = (fair, quotient); only = λ s h. entered_once n d s _ h (fair, quotient); value = entry_is n d _ (fair, quotient) }

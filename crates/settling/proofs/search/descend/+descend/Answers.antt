@@ -94,6 +94,43 @@ candidates-preserved-in_default-look g t c =
       c.in_default-look.ensures.tabled,
     )
 
+-- It stands before the trials that lead no further, since a wrong body is told of at the first answer that fails.
+pub descend-requires : goal.descend-requires
+descend-requires g t c κs =
+    let C = g.C.Costing in
+    let dist = g.M.Measure.dist c.args.measure.now in
+    let cst = meant C in
+    let d = c.args.draft.now in
+    let k = c.args.k in
+    let s = c.args.search.now in
+    let cost = c.in-Some.cost in
+    let laid = c.candidates.search.laid in
+    let facts = there d k c.in-Some-candidates.candidates.now (sym (c.in-Some-candidates.ensures.by_book (book_of d) (held_book d))) in
+    let small = facts.1 in
+    let long : k ≤ length laid = search rules in
+    let inv = c.candidates.invariant.0 in
+    let same : stacked c.candidates.stack ≡ stacked c.args.stack.now = inv.stacked in
+    let size : room c.candidates.stack ≡ room c.args.stack.now = inv.size in
+    let height : length (stacked c.candidates.stack) ≡ k + 1 = ap length same ∙ c.requires.0 in
+    let wide : 33 ≤ room c.candidates.stack = omega (arith, c.requires.1) in
+    let on = pushed c.push.result (room c.candidates.stack) c.loop-earlier.sum (stacked c.candidates.stack) (stacked c.push.new.self) c.push.ensures.put (omega arith) in
+    let higher : length (stacked c.push.new.self) ≡ k + 2 = ap length on ∙ (length_push (stacked c.candidates.stack) c.loop-earlier.sum ∙ omega arith) in
+    let wide₁ : 33 ≤ room c.push.new.self = omega (arith, c.push.ensures.size) in
+    let below = facts.0 in
+    let within = inv.within in
+    let spare = c.if-search-allowance.false in
+    let numbers = c.candidates.search.numbers in
+    let few : c.candidates.number < 8 = omega (arith, facts.2, c.candidates-test.true) in
+    let in_laid : k < length laid = search rules in
+    let in_numbers : k < length numbers = search rules in
+    let more = λ (b : Book) (h : Holds d b). laid_more b k laid numbers (laid_kept b k s.laid s.numbers (c.requires.5 b h) laid numbers inv.laid inv.numbers) c.candidates.number c.index-candidates-number.result (candidate_read b k c.candidates.number c.in-Some-candidates.candidates.now c.index-candidates-number.result (sym (c.in-Some-candidates.ensures.by_book b h)) c.candidates-test.true c.index-candidates-number.is) few in_laid in_numbers in
+    let sum = c.loop-earlier.sum in
+    let ahead : Ahead cst c.candidates.search sum = λ n. elim c.match-search.branch [
+      | in-Some-best+else-no_more w ↦ beaten_some dist cst d c.args.allowance k sum c.candidates.search w.in-Some-best.best w.in-Some-best.is n ∙ (sym w.no_more.ensures ∙ w.if-no_more.false)
+      | in_default-best w ↦ beaten_none dist cst d c.args.allowance k sum c.candidates.search w.in_default-best.is n
+    ] in
+    λ ls. (search rules, (ls.0, (ls.1.0, (ls.1.1, (omega arith, wide₁, omega arith, omega arith, c.loop-earlier.invariant.1, more, λ rest v e. subst (λ u. Ahead cst c.candidates.search u) (sym (same_from_push rest (stacked c.candidates.stack) v sum (sym e ∙ on)).1) ahead)))))
+
 pub candidates-preserved-then-no_more : goal.candidates-preserved-then-no_more
 candidates-preserved-then-no_more g t c =
     let C = g.C.Costing in
@@ -182,42 +219,6 @@ pub bounds-search-k-in-candidates : goal.bounds-search-k-in-candidates
 bounds-search-k-in-candidates g t c =
     let d = c.args.draft.now in
     (there d c.args.k c.in-Some-candidates.candidates.now (sym (c.in-Some-candidates.ensures.by_book (book_of d) (held_book d)))).1
-
-pub descend-requires : goal.descend-requires
-descend-requires g t c κs =
-    let C = g.C.Costing in
-    let dist = g.M.Measure.dist c.args.measure.now in
-    let cst = meant C in
-    let d = c.args.draft.now in
-    let k = c.args.k in
-    let s = c.args.search.now in
-    let cost = c.in-Some.cost in
-    let laid = c.candidates.search.laid in
-    let facts = there d k c.in-Some-candidates.candidates.now (sym (c.in-Some-candidates.ensures.by_book (book_of d) (held_book d))) in
-    let small = facts.1 in
-    let long : k ≤ length laid = search rules in
-    let inv = c.candidates.invariant.0 in
-    let same : stacked c.candidates.stack ≡ stacked c.args.stack.now = inv.stacked in
-    let size : room c.candidates.stack ≡ room c.args.stack.now = inv.size in
-    let height : length (stacked c.candidates.stack) ≡ k + 1 = ap length same ∙ c.requires.0 in
-    let wide : 33 ≤ room c.candidates.stack = omega (arith, c.requires.1) in
-    let on = pushed c.push.result (room c.candidates.stack) c.loop-earlier.sum (stacked c.candidates.stack) (stacked c.push.new.self) c.push.ensures.put (omega arith) in
-    let higher : length (stacked c.push.new.self) ≡ k + 2 = ap length on ∙ (length_push (stacked c.candidates.stack) c.loop-earlier.sum ∙ omega arith) in
-    let wide₁ : 33 ≤ room c.push.new.self = omega (arith, c.push.ensures.size) in
-    let below = facts.0 in
-    let within = inv.within in
-    let spare = c.if-search-allowance.false in
-    let numbers = c.candidates.search.numbers in
-    let few : c.candidates.number < 8 = omega (arith, facts.2, c.candidates-test.true) in
-    let in_laid : k < length laid = search rules in
-    let in_numbers : k < length numbers = search rules in
-    let more = λ (b : Book) (h : Holds d b). laid_more b k laid numbers (laid_kept b k s.laid s.numbers (c.requires.5 b h) laid numbers inv.laid inv.numbers) c.candidates.number c.index-candidates-number.result (candidate_read b k c.candidates.number c.in-Some-candidates.candidates.now c.index-candidates-number.result (sym (c.in-Some-candidates.ensures.by_book b h)) c.candidates-test.true c.index-candidates-number.is) few in_laid in_numbers in
-    let sum = c.loop-earlier.sum in
-    let ahead : Ahead cst c.candidates.search sum = λ n. elim c.match-search.branch [
-      | in-Some-best+else-no_more w ↦ beaten_some dist cst d c.args.allowance k sum c.candidates.search w.in-Some-best.best w.in-Some-best.is n ∙ (sym w.no_more.ensures ∙ w.if-no_more.false)
-      | in_default-best w ↦ beaten_none dist cst d c.args.allowance k sum c.candidates.search w.in_default-best.is n
-    ] in
-    λ ls. (search rules, (ls.0, (ls.1.0, (ls.1.1, (omega arith, wide₁, omega arith, omega arith, c.loop-earlier.invariant.1, more, λ rest v e. subst (λ u. Ahead cst c.candidates.search u) (sym (same_from_push rest (stacked c.candidates.stack) v sum (sym e ∙ on)).1) ahead)))))
 
 pub returns-in_err-descend : goal.returns-in_err-descend
 returns-in_err-descend g t c =
