@@ -56,7 +56,7 @@ shorter : {A : Type 0} (k : ℕ) (xs ys : List A) → take (k + 1) xs ≡ take (
 shorter k xs ys e = sym (take-take k (k + 1) xs (omega arith)) ∙ (ap (take k) e ∙ take-take k (k + 1) ys (omega arith))
 
 module _ {V : Type 0} (dist : Ratio → Ratio → ℕ) (c : Costing V) (d : Draft) (allowance k : ℕ) (v : V) where
-  -- ---- whether the best so far costs no more, and a start with every tone laid
+  -- ---- a start that is left at once, and one with every tone laid
 
   pub beaten_some : (s : Search V) (best : V) → s.best ≡ Some best → (n : ℕ) → beaten c (seen n s.best s.sheet) v ≡ c.no_more best v
   beaten_some s best e n = ap (λ o. beaten c (seen n o s.sheet) v) e
@@ -64,7 +64,6 @@ module _ {V : Type 0} (dist : Ratio → Ratio → ℕ) (c : Costing V) (d : Draf
   pub beaten_none : (s : Search V) → s.best ≡ None → (n : ℕ) → beaten c (seen n s.best s.sheet) v ≡ false
   beaten_none s e n = ap (λ o. beaten c (seen n o s.sheet) v) e
 
-  -- a start that costs no less than the best so far may be left at once: nothing below it changes what is found
   pub went_beaten : (s : Search V) (best : V) → s.best ≡ Some best → c.no_more best v ≡ true → s.trials ≤ allowance → Went dist c d allowance k v s s
   went_beaten s best e more within = record {
     laid = refl;
@@ -126,35 +125,20 @@ module _ {V : Type 0} (dist : Ratio → Ratio → ℕ) (c : Costing V) (d : Draf
               let size : length (take k entry.laid) ≡ k = ap length (sym front) ∙ length-take-le k s.laid long in
               ap (λ m. row (problem dist b) c m x 0 (take k entry.laid) v) size ∙ (ap (λ xs. row (problem dist b) c k x 0 xs v) (sym front) ∙ e)
 
-          -- a trial that leads no further
-          module _ (s' : Search V) (laid : s'.laid ≡ s.laid) (numbers : s'.numbers ≡ s.numbers) (best : s'.best ≡ s.best) (sheet : s'.sheet ≡ s.sheet) (trials : s'.trials ≡ s.trials + 1) (room_left : s.trials < allowance) where
-            trying_past : ((b : Book) → Holds d b
-                → counted (found (length b.tones) s) ≡ fold (step (problem dist b) c (drop (k + 1) (rows b)) (take k entry.laid) (take k entry.numbers) v) (found (length b.tones) entry) (take (number + 1) (numbered 0 cs)))
-                → Trying dist c d allowance k v cs (number + 1) entry s' stack₀ stack room₀ room
-            trying_past past = record {
-              laid = ap (take k) laid ∙ trying.laid;
-              numbers = ap (take k) numbers ∙ trying.numbers;
-              within = omega arith;
-              stacked = trying.stacked;
-              size = trying.size;
-              unbeaten = trying.unbeaten;
-              finds = λ b h.
-                  let n : ℕ = length b.tones in
-                  let more : found n s' ≡ counted (found n s) = cc (ap (λ o. seen n o s'.sheet) best, ap (seen n s.best) sheet, trials) in
-                  more ∙ past b h;
-            }
-
-            pub trying_broken : ((b : Book) → Holds d b → row (problem dist b) c k x 0 (take k s.laid) v ≡ None) → Trying dist c d allowance k v cs (number + 1) entry s' stack₀ stack room₀ room
-            trying_broken none =
-                trying_past (λ b h.
-                stepped_none (problem dist b) c (drop (k + 1) (rows b)) (take k entry.laid) (take k entry.numbers) v (found (length b.tones) entry) (found (length b.tones) s) cs number x listed is (trying.finds b h) (laid_row b None (none b h)))
-
-            pub trying_beaten : (w best : V) → s.best ≡ Some best → c.no_more best w ≡ true → ((b : Book) → Holds d b → row (problem dist b) c k x 0 (take k s.laid) v ≡ Some w) → Trying dist c d allowance k v cs (number + 1) entry s' stack₀ stack room₀ room
-            trying_beaten w best₁ e less kept =
-                trying_past (λ b h.
+          pub trying_broken : (s' : Search V) → s'.laid ≡ s.laid → s'.numbers ≡ s.numbers → s'.best ≡ s.best → s'.sheet ≡ s.sheet → s'.trials ≡ s.trials + 1 → s.trials < allowance
+              → ((b : Book) → Holds d b → row (problem dist b) c k x 0 (take k s.laid) v ≡ None) → Trying dist c d allowance k v cs (number + 1) entry s' stack₀ stack room₀ room
+          trying_broken s' laid numbers best sheet trials room_left none = record {
+            laid = ap (take k) laid ∙ trying.laid;
+            numbers = ap (take k) numbers ∙ trying.numbers;
+            within = omega arith;
+            stacked = trying.stacked;
+            size = trying.size;
+            unbeaten = trying.unbeaten;
+            finds = λ b h.
                 let n : ℕ = length b.tones in
-                sym (explore_beaten (problem dist b) c (drop (k + 1) (rows b)) (take k entry.laid ++ (x ∷ [])) (take k entry.numbers ++ (number ∷ [])) w (counted (found n s)) (ap (λ o. beaten c (seen n o s.sheet) w) e ∙ less))
-                ∙ stepped_some (problem dist b) c (drop (k + 1) (rows b)) (take k entry.laid) (take k entry.numbers) v (found n entry) (found n s) cs number x w listed is (trying.finds b h) (laid_row b (Some w) (kept b h)))
+                let more : found n s' ≡ counted (found n s) = cc (ap (λ o. seen n o s'.sheet) best, ap (seen n s.best) sheet, trials) in
+                more ∙ stepped_none (problem dist b) c (drop (k + 1) (rows b)) (take k entry.laid) (take k entry.numbers) v (found n entry) (found n s) cs number x listed is (trying.finds b h) (laid_row b None (none b h));
+          }
 
           module _ (w : V) (kept : (b : Book) → Holds d b → row (problem dist b) c k x 0 (take k s.laid) v ≡ Some w)
               (s₁ : Search V) (laid₁ : s₁.laid ≡ set s.laid k x) (numbers₁ : s₁.numbers ≡ set s.numbers k number) (best₁ : s₁.best ≡ s.best) (sheet₁ : s₁.sheet ≡ s.sheet) (trials₁ : s₁.trials ≡ s.trials + 1)

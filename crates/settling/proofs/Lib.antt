@@ -12,6 +12,5 @@ pub mod Costings
 pub mod Graef
 pub mod Descent
 pub mod Written
-pub mod Cells
 pub mod Settled
 pub mod Runs

@@ -4,7 +4,6 @@ pub mod Graef
 pub mod Explore
 pub mod Posed
 pub mod Searching
-pub mod Tabled
 pub mod Faults
 pub mod Promise
 pub mod Run

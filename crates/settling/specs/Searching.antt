@@ -1,10 +1,10 @@
 -- How far a search has come, against the search as a function. Only private functions cite this.
-use Rattle.std.specs.Prelude.{◌≡◌, ℕ, ◌<◌, ◌≤◌, false, List, length, take, drop, Some, None, Option}
+use Rattle.std.specs.Prelude.{◌≡◌, ℕ, ◌<◌, ◌≤◌, List, length, take, drop, Some, None, Option}
 use Rattle.draft.specs.Book.{Book}
 use Rattle.draft.specs.Held.{Holds}
 use Rattle.draft.specs.declared.draft.Draft.{Draft}
 use Rattle.ratio.specs.declared.ratio.Ratio.{Ratio}
-use Rattle.settling.specs.Explore.{Found, beaten, explore}
+use Rattle.settling.specs.Explore.{Found, explore}
 use Rattle.settling.specs.Posed.{rows, problem}
 use Rattle.settling.specs.Settling.{Costing}
 use Rattle.settling.specs.declared.search.Search.{Search}
@@ -17,10 +17,6 @@ seen n (Some v) sheet = Some (v, take n sheet)
 -- what a search has found, in a scale of n tones
 abbrev pub found : {V : Type 0} → ℕ → Search V → Found V
 found n s = record { best = seen n s.best s.sheet; trials = s.trials }
-
--- the best so far costs more than v
-abbrev pub Ahead : {V : Type 0} → Costing V → Search V → V → Type 0
-Ahead c s v = (n : ℕ) → beaten c (seen n s.best s.sheet) v ≡ false
 
 -- what the search below the first k tones is to find, from what is found before it
 abbrev pub searched : {V : Type 0} → (Ratio → Ratio → ℕ) → Costing V → Book → ℕ → V → Search V → Found V

@@ -6,4 +6,3 @@ pub mod replay;
 mod search;
 pub mod settle;
 pub mod step;
-mod table;

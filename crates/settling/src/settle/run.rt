@@ -1,11 +1,10 @@
 //! The call that settles a draft.
 
-ghost use Rattle.std.specs.Prelude.{◌<◌, ◌≤◌, length};
+ghost use Rattle.std.specs.Prelude.{length};
 ghost use Rattle.draft.specs.Book.{Book};
 ghost use Rattle.draft.specs.Held.{Holds};
 ghost use Rattle.settling.specs.Posed.{meant};
 ghost use Rattle.settling.specs.Promise.{Settling};
-ghost use Rattle.settling.specs.Tabled.{Tabled};
 
 use super::{LARGEST_ALLOWANCE, STACK_PLACES, Settled, Sheet, write_out};
 use crate::fault::SearchFault;
@@ -16,19 +15,6 @@ use costing::stack::Stack;
 use draft::draft::Draft;
 use measure::measure::Measure;
 use ratio::ratio::Ratio;
-
-/// The most tones of a small draft, and the cells of their pairs.
-const FEW_TONES: usize = 4;
-
-const FEW_CELLS: usize = 384;
-
-/// The most tones of a middling draft, and the cells of their pairs.
-const SOME_TONES: usize = 16;
-
-const SOME_CELLS: usize = 7_680;
-
-/// The cells of the pairs of the most tones.
-const MOST_CELLS: usize = 31_744;
 
 /// The best scale of the draft: one candidate for each tone that keeps all bounds and costs least; of equals the first in
 /// list order. The sheet's first places then hold the candidate numbers.
@@ -56,53 +42,6 @@ pub fn settle<M: Measure, C: Costing>(
     if tones == 0 {
         return Err(SearchFault::NoTone);
     }
-    if tones <= FEW_TONES {
-        return settle_over(
-            draft,
-            measure,
-            costing,
-            allowance,
-            sheet,
-            stack,
-            &mut [0; FEW_CELLS],
-        );
-    }
-    if tones <= SOME_TONES {
-        return settle_over(
-            draft,
-            measure,
-            costing,
-            allowance,
-            sheet,
-            stack,
-            &mut [0; SOME_CELLS],
-        );
-    }
-    settle_over(
-        draft,
-        measure,
-        costing,
-        allowance,
-        sheet,
-        stack,
-        &mut [0; MOST_CELLS],
-    )
-}
-
-/// The answer to a settling that is well put, by a search over a table with a cell for every two candidates.
-fn settle_over<M: Measure, C: Costing>(
-    draft: &Draft,
-    measure: &M,
-    costing: &C,
-    allowance: u64,
-    sheet: &mut Sheet,
-    stack: &mut [C::Value],
-    cells: &mut [u32],
-) -> Result<Settled<C::Value>, SearchFault>
-    requires { (allowance ≤ 1000000000) × (33 ≤ length stack.old) × (0 < draft.now.count) × Tabled (M.Measure.dist measure.now) draft.now cells.old }
-    ensures settles { (b : Book) → Holds draft.now b → Settling (M.Measure.dist measure.now) (meant C.Costing) b allowance (length stack.old) result sheet.old sheet.new }
-{
-    let tones = draft.tones();
     let mut search = Search {
         laid: [Ratio::unison(); 32],
         numbers: [0; 32],
@@ -115,7 +54,6 @@ fn settle_over<M: Measure, C: Costing>(
     descend(
         &mut search,
         &mut partial,
-        cells,
         measure,
         costing,
         draft,

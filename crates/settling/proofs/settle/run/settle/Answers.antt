@@ -1,27 +1,84 @@
-use Rattle.std.proofs.Common.{◌≡◌, refl, arith}
+use Rattle.std.proofs.Common.{◌<◌, [], ◌∷◌, ◌++◌, length, None, Err, sym, refl, ap, ◌∙◌, subst, arith}
 use Rattle.draft.specs.Held.{book_of}
 use Rattle.draft.proofs.Holding.{held_count, held_book}
-use Rattle.settling.proofs.Cells.{tabled_none}
+use Rattle.settling.specs.Posed.{meant}
+use Rattle.settling.specs.Settling.{Lawful}
+use Rattle.costing.specs.Stacks.{stacked, room}
+use Rattle.std.proofs.lemmas.Result.{err_from_is_err_and}
+use Rattle.settling.specs.Promise.{Settling}
+use Rattle.settling.proofs.Descent.{pushed}
+use Rattle.settling.proofs.Settled.{spent_settles, none_settles, best_settles}
+use Rattle.settling.proofs.settle.run.settle.Given.{Over}
 use Rattle.settling.proofs.settle.run.settle.Goals as goal
 
-pub settle_over-requires : goal.settle_over-requires
-settle_over-requires g c =
-    let dist = g.M.Measure.dist c.args.measure.now in
-    let d = c.args.draft.now in
-    let same : c.tones-tones.result ≡ d.count = omega (arith, held_count d (book_of d) (held_book d), c.tones-tones.ensures.by_book (book_of d) (held_book d)) in
-    (omega (arith, c.if-allowance-gt-LARGEST_ALLOWANCE.false), omega (arith, c.if-stack-lt-STACK_PLACES.false), omega (arith, same, c.if-tones-eq0.false), tabled_none dist d 4 384 (omega (arith, same, c.if-tones-le-FEW_TONES.true)) (omega arith) refl)
+lawful : (g : Over) → Lawful (meant g.C.Costing)
+lawful g =
+    let met = g.met.C.Costing in
+    record {
+      associative = met.associative;
+      commutative = met.commutative;
+      neutral = met.neutral;
+      reflexive = met.reflexive;
+      transitive = met.transitive;
+      total = met.comparable;
+      antisymmetric = met.antisymmetric;
+      grows = met.grows;
+    }
 
-pub settle_over-requires-then-tones-le-SOME_TONES : goal.settle_over-requires-then-tones-le-SOME_TONES
-settle_over-requires-then-tones-le-SOME_TONES g c =
+pub returns-in_err-descend : goal.returns-in_err-descend
+returns-in_err-descend g c =
+    let C = g.C.Costing in
     let dist = g.M.Measure.dist c.args.measure.now in
+    let cst = meant C in
     let d = c.args.draft.now in
-    let same : c.tones-tones.result ≡ d.count = omega (arith, held_count d (book_of d) (held_book d), c.tones-tones.ensures.by_book (book_of d) (held_book d)) in
-    (omega (arith, c.if-allowance-gt-LARGEST_ALLOWANCE.false), omega (arith, c.if-stack-lt-STACK_PLACES.false), omega (arith, same, c.if-tones-eq0.false), tabled_none dist d 16 7680 (omega (arith, same, c.if-tones-le-SOME_TONES.true)) (omega arith) refl)
+    let allowance = c.args.allowance in
+    let places = length c.args.stack.now in
+    let sheet = c.args.sheet.now in
+    let some : 0 < d.count = omega (arith, held_count d (book_of d) (held_book d), c.tones-tones.ensures.by_book (book_of d) (held_book d), c.if-tones-eq0.false) in
+    let size = c.over-partial.ensures.size in
+    let empty = c.over-partial.ensures.empty in
+    let on = pushed c.push.result (room c.over-partial.result) c.nothing.result (stacked c.over-partial.result) (stacked c.push.new.self) c.push.ensures.put (omega (arith, ap length empty, c.if-stack-lt-STACK_PLACES.false)) in
+    let over = c.in_err-descend.ensures.searched [] C.nil (on ∙ (ap (λ xs. xs ++ (c.nothing.result ∷ [])) empty ∙ ap (λ v. v ∷ []) c.nothing.ensures)) in
+    let p = err_from_is_err_and c.from_residual.result c.from_residual.ensures.1 in
+    record {
+      settles = λ b h. subst (λ r. Settling dist cst b allowance places r sheet sheet) (sym (p.1 ∙ ap Err p.2))
+          (spent_settles dist cst (lawful g) d allowance places (omega (arith, c.if-allowance-gt-LARGEST_ALLOWANCE.false)) (omega (arith, c.if-stack-lt-STACK_PLACES.false)) some (record { laid = []; numbers = []; best = None; sheet = []; trials = 0 }) refl refl over b h sheet);
+    }
 
-pub settle_over-requires-2 : goal.settle_over-requires-2
-settle_over-requires-2 g c =
+pub returns-in_default : goal.returns-in_default
+returns-in_default g c =
+    let C = g.C.Costing in
     let dist = g.M.Measure.dist c.args.measure.now in
+    let cst = meant C in
     let d = c.args.draft.now in
-    let same : c.tones-tones.result ≡ d.count = omega (arith, held_count d (book_of d) (held_book d), c.tones-tones.ensures.by_book (book_of d) (held_book d)) in
+    let some : 0 < d.count = omega (arith, held_count d (book_of d) (held_book d), c.tones-tones.ensures.by_book (book_of d) (held_book d), c.if-tones-eq0.false) in
+    let empty = c.over-partial.ensures.empty in
+    let size = c.over-partial.ensures.size in
+    let on = pushed c.push.result (room c.over-partial.result) c.nothing.result (stacked c.over-partial.result) (stacked c.push.new.self) c.push.ensures.put (omega (arith, ap length empty, c.if-stack-lt-STACK_PLACES.false)) in
+    let went = c.in_ok-descend.ensures.searched [] C.nil (on ∙ (ap (λ xs. xs ++ (c.nothing.result ∷ [])) empty ∙ ap (λ v. v ∷ []) c.nothing.ensures)) in
+    record {
+      settles = λ b h. none_settles dist cst (lawful g) d c.args.allowance (length c.args.stack.now) (omega (arith, c.if-allowance-gt-LARGEST_ALLOWANCE.false)) (omega (arith, c.if-stack-lt-STACK_PLACES.false)) some _ refl refl c.descend.new.search went c.in_default.is b h c.args.sheet.now;
+    }
+
+pub write_out-requires : goal.write_out-requires
+write_out-requires g c =
+    let d = c.args.draft.now in
     let few = d.few in
-    (omega (arith, c.if-allowance-gt-LARGEST_ALLOWANCE.false), omega (arith, c.if-stack-lt-STACK_PLACES.false), omega (arith, same, c.if-tones-eq0.false), tabled_none dist d 32 31744 few (omega arith) refl)
+    omega (arith, held_count d (book_of d) (held_book d), c.tones-tones.ensures.by_book (book_of d) (held_book d))
+
+pub returns : goal.returns
+returns g c =
+    let C = g.C.Costing in
+    let dist = g.M.Measure.dist c.args.measure.now in
+    let cst = meant C in
+    let d = c.args.draft.now in
+    let count = c.tones-tones.ensures.by_book in
+    let few = d.few in
+    let some : 0 < d.count = omega (arith, held_count d (book_of d) (held_book d), count (book_of d) (held_book d), c.if-tones-eq0.false) in
+    let empty = c.over-partial.ensures.empty in
+    let size = c.over-partial.ensures.size in
+    let on = pushed c.push.result (room c.over-partial.result) c.nothing.result (stacked c.over-partial.result) (stacked c.push.new.self) c.push.ensures.put (omega (arith, ap length empty, c.if-stack-lt-STACK_PLACES.false)) in
+    let went = c.in_ok-descend.ensures.searched [] C.nil (on ∙ (ap (λ xs. xs ++ (c.nothing.result ∷ [])) empty ∙ ap (λ v. v ∷ []) c.nothing.ensures)) in
+    record {
+      settles = λ b h. best_settles dist cst (lawful g) d c.args.allowance (length c.args.stack.now) (omega (arith, c.if-allowance-gt-LARGEST_ALLOWANCE.false)) (omega (arith, c.if-stack-lt-STACK_PLACES.false)) some _ refl refl c.descend.new.search went c.in-Some.cost c.in-Some.is c.write_out.ensures.long b h c.args.sheet.now c.write_out.new.sheet c.tones-tones.result (count b h) (omega (arith, held_count d b h, count b h)) c.write_out.ensures.written;
+    }
