@@ -12,13 +12,13 @@ pub length_numbered : {R : Type 0} (n : ℕ) (xs : List R) → length (numbered 
 length_numbered n [] = refl
 length_numbered n (x ∷ xs) = ap suc (length_numbered (n + 1) xs)
 
-pub get_d_numbered : {R : Type 0} (n k : ℕ) (xs : List R) (d : ℕ × R) → k < length xs → get_or (numbered n xs) k d ≡ (n + k, get_or xs k d.1)
-get_d_numbered n k [] d h = absurd (omega arith)
-get_d_numbered n zero (x ∷ xs) d h = let e : n ≡ n + 0 = omega arith in ap (λ m. (m, x)) e
-get_d_numbered n (suc k) (x ∷ xs) d h =
+pub get_or_numbered : {R : Type 0} (n k : ℕ) (xs : List R) (d : ℕ × R) → k < length xs → get_or (numbered n xs) k d ≡ (n + k, get_or xs k d.1)
+get_or_numbered n k [] d h = absurd (omega arith)
+get_or_numbered n zero (x ∷ xs) d h = let e : n ≡ n + 0 = omega arith in ap (λ m. (m, x)) e
+get_or_numbered n (suc k) (x ∷ xs) d h =
     let h' : k < length xs = omega arith in
     let e : (n + 1) + k ≡ n + suc k = omega arith in
-    get_d_numbered (n + 1) k xs d h' ∙ ap (λ m. (m, get_or xs k d.1)) e
+    get_or_numbered (n + 1) k xs d h' ∙ ap (λ m. (m, get_or xs k d.1)) e
 
 module _ {R V : Type 0} (p : Problem R) (c : Costing V) where
   -- ---- one trial
@@ -37,7 +37,7 @@ module _ {R V : Type 0} (p : Problem R) (c : Costing V) where
         let S = step p c rest laid s v in
         let h' : n < length (numbered 0 cs) = omega (arith, length_numbered 0 cs) in
         let zero_n : 0 + n ≡ n = omega arith in
-        let at_n : get_or (numbered 0 cs) n (n, x) ≡ (n, x) = get_d_numbered 0 n cs (n, x) h ∙ (λ i. (zero_n i, sym is i)) in
+        let at_n : get_or (numbered 0 cs) n (n, x) ≡ (n, x) = get_or_numbered 0 n cs (n, x) h ∙ (λ i. (zero_n i, sym is i)) in
         ap (λ y. S y (n, x)) inv ∙ ap (S (fold S f (take n (numbered 0 cs)))) (sym at_n) ∙ sym (fold_more S f (numbered 0 cs) n (n, x) h')
 
     pub stepped_some : (f g : Found V) (cs : List R) (n : ℕ) (x : R) (w : V) → n < length cs → x ≡ get_or cs n x → g ≡ fold (step p c rest laid s v) f (take n (numbered 0 cs)) → row p c (length laid) x 0 laid v ≡ Some w

@@ -7,8 +7,8 @@ use Rattle.ratio.proofs.Computed.{entry_is}
 use Rattle.ratio.proofs.Lowest.{minus_six, rests_same, quotient_is, numerator_less, denominator_less}
 use Rattle.ratio.proofs.ratio.Ratio.new.Goals as goal
 
-parts-fit : {n d : ℕ} → 0 < n → 0 < d → n ≤ 4294967295 → d ≤ 4294967295 → PartsFit n d
-parts-fit a b p q = record { numerator_some = a; denominator_some = b; numerator_small = p; denominator_small = q }
+parts_fit : {n d : ℕ} → 0 < n → 0 < d → n ≤ 4294967295 → d ≤ 4294967295 → PartsFit n d
+parts_fit a b p q = record { numerator_some = a; denominator_some = b; numerator_small = p; denominator_small = q }
 
 pub returns-then-above-below : goal.returns-then-above-below
 returns-then-above-below c =
@@ -16,7 +16,7 @@ returns-then-above-below c =
     let d = c.args.denominator in
     let apart : c.of-above.result.rest ≢ c.of-below.result.rest = search rules in
     let left : Entered n d (Err PrimeLeft) = (
-      parts-fit (omega arith) (omega arith) (omega arith) (omega arith),
+      parts_fit (omega arith) (omega arith) (omega arith) (omega arith),
       λ e six q. apart (rests_same n d _ _ _ _ c.of-above.ensures.factored c.of-below.ensures.factored e six q),
     ) in
     record { entered = left; only = λ s h. entered_once n d s (Err PrimeLeft) h left; value = entry_is n d (Err PrimeLeft) left }
@@ -26,7 +26,7 @@ pub returns : goal.returns
 returns c =
     let n = c.args.numerator in
     let d = c.args.denominator in
-    let fair : PartsFit n d = parts-fit (omega arith) (omega arith) (omega arith) (omega arith) in
+    let fair : PartsFit n d = parts_fit (omega arith) (omega arith) (omega arith) (omega arith) in
     let quotient = subst (Quotient n d) (sym c.differences.ensures) (quotient_is n d _ _ _ _ c.of-above.ensures.factored c.of-below.ensures.factored c.if-above-below.false) in
     record { entered = (fair, quotient); only = λ s h. entered_once n d s _ h (fair, quotient); value = entry_is n d _ (fair, quotient) }
 
