@@ -2,6 +2,7 @@
 #![tactic(auto)]
 
 pub mod costing;
+pub mod joining;
 pub mod stack;
 pub mod total;
 pub mod worst;

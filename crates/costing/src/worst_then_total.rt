@@ -2,8 +2,7 @@
 
 ghost use Rattle.std.specs.Prelude.{◌≡◌, ◌+◌, ◌-◌, ◌^◌, min, max};
 ghost use Rattle.costing.specs.Costs.{pair_joined, pair_within};
-ghost use Rattle.std.proofs.Common.{arith, rules};
-ghost use Rattle.costing.specs.Laws.Added.{added_associative};
+ghost use Rattle.std.proofs.Common.{rules};
 
 use crate::costing::Costing;
 use crate::total::Total;
@@ -24,10 +23,7 @@ impl Costing for WorstThenTotal {
 
     ghost within = { pair_within };
 
-    ghost associative = { λ a b c.
-        let worst : max (max a.0 b.0) c.0 ≡ max a.0 (max b.0 c.0) = omega arith in
-        let total = added_associative a.1 b.1 c.1 in
-        λ i. (worst i, total i) };
+    ghost associative = { Prim.search rules };
 
     ghost commutative = { Prim.search rules };
 
@@ -60,6 +56,6 @@ impl Costing for WorstThenTotal {
     }
 
     fn no_more(&self, a: (u64, u64), b: (u64, u64)) -> bool {
-        a.0 < b.0 || a.0 == b.0 && Total.no_more(a.1, b.1)
+        a <= b
     }
 }
