@@ -35,12 +35,11 @@ impl WeightedPrimes {
         ensures held { IfOk result (λ m. m.weights ≡ weights) }
         ensures accepted { Decides (is_ok result) (Allowed weights) }
     {
-        for weight in weights {
-            if weight == 0 || weight > HEAVIEST {
-                return Err(WeightFault::OutOfLimits);
-            }
+        if weights.iter().all(|weight| (1..=HEAVIEST).contains(weight)) {
+            Ok(WeightedPrimes { weights })
+        } else {
+            Err(WeightFault::OutOfLimits)
         }
-        Ok(WeightedPrimes { weights })
     }
 
     /// Barlow's weights: for the prime p, 60,060 times (p - 1)²/p.
@@ -72,7 +71,7 @@ impl Measure for WeightedPrimes {
 
     ghost triangle = { λ m a b c. weighted_triangle m.weights a.exponents b.exponents c.exponents (omega (arith, m.six, b.six)) };
 
-    ghost bounded = { λ m a b. weighted_bounded m.weights m.six m.allowed a b };
+    ghost bounded = { λ m a b. omega (arith, weighted_bounded m.weights m.allowed a b) };
 
     /// The distance, which is 0 only between equal ratios, and is the harmonic distance with these weights as the
     /// disharmonicities of the primes.
@@ -84,11 +83,11 @@ impl Measure for WeightedPrimes {
     {
         let start = a.exponents();
         let end = b.exponents();
-        let mut total = 0;
-        for place in 0..6 {
-            total += self.weights[place] * u32::from(start[place].abs_diff(end[place]));
-        }
-        total
+        self.weights
+            .iter()
+            .zip(start.iter().zip(&end))
+            .map(|(weight, (from, to))| weight * u32::from(from.abs_diff(*to)))
+            .sum()
     }
 
     /// The disharmonicity of a ratio: that of its numerator plus that of its denominator, where on whole numbers the
