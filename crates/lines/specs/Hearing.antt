@@ -1,10 +1,11 @@
 -- What a line holds of the bytes that were read.
 use Rattle.std.specs.Prelude.{◌≡◌, ℕ, List, [], ◌∷◌, ◌++◌, Some, None, Option, take}
+use Rattle.places.specs.Listed.{listed}
 use Rattle.lines.specs.declared.line.Line.{Line}
 
 -- the bytes that a line holds
 abbrev pub held : Line → List ℕ
-held line = take line.len line.bytes
+held line = listed line.bytes
 
 -- the line holds the first 81 bytes of `past`, the bytes since the last line end
 abbrev pub Heard : Line → List ℕ → Type 0

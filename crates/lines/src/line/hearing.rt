@@ -4,8 +4,9 @@ ghost use Rattle.std.specs.Prelude.{◌≡◌, ℕ, List, [], ◌∷◌, ◌++�
 ghost use Rattle.lines.specs.Hearing.{held, Heard, OneMore};
 ghost use Rattle.lines.specs.Splitting.{ended, open_line, all_lines};
 
-use super::{LONGEST_LINE, Line};
+use super::Line;
 use crate::split::ends_line;
+use places::Places;
 
 impl Line {
     /// A line of which nothing is read yet.
@@ -13,33 +14,30 @@ impl Line {
         ensures heard { Heard result [] }
     {
         Line {
-            bytes: [0; 81],
-            len: 0,
+            bytes: Places::empty(0),
         }
     }
 
     /// Reads one byte more of the line. Beyond 81 bytes it keeps nothing more.
+    // stays (no plainer): a ghost field states a fact of the fields and keeps no value, so the clauses name the bytes read so far
     pub fn push(&mut self, byte: u8)
         ensures heard { (past : List ℕ) → Heard self.old past → Heard self.new (past ++ (byte ∷ [])) }
     {
-        if self.len <= LONGEST_LINE {
-            self.bytes[self.len] = byte;
-            self.len += 1;
-        }
+        let _ = self.bytes.push(byte);
     }
 
     /// Begins a new line.
     pub fn clear(&mut self)
         ensures heard { Heard self.new [] }
     {
-        self.len = 0;
+        self.bytes.clear();
     }
 
     /// The bytes of the line, at most its first 81.
     pub fn bytes(&self) -> &[u8]
         ensures held { result.now ≡ held self.now }
     {
-        &self.bytes[0..self.len]
+        self.bytes.as_slice()
     }
 
     /// Whether nothing of the line is read yet.
@@ -47,7 +45,7 @@ impl Line {
         ensures nothing_held { Decides result (held self.now ≡ []) }
         ensures nothing_heard { (past : List ℕ) → Heard self.now past → Decides result (past ≡ []) }
     {
-        self.len == 0
+        self.bytes.is_empty()
     }
     /// Hears one byte more of an input: the line that it ends, if it ends one. A new line then begins.
     pub fn hear(&mut self, byte: u8) -> Option<Line>
