@@ -3,22 +3,13 @@
 
 use interval::table::Table;
 use std::io;
-use std::io::Read;
+use std::io::{BufReader, Read};
 
 fn main(rt: HostRuntime) -> io::Result<()> {
-    let mut input = rt.stdin();
     let mut table = Table::new();
-    let mut chunk = [0; 4096];
-    // nothing says that an input ends, so the turns are counted
-    for _ in 0..u64::MAX {
-        let count = input.read(&mut chunk)?;
-        if count == 0 {
-            break;
-        }
-        for byte in &chunk[0..count] {
-            if let Some(answer) = table.hear(*byte) {
-                println!(rt; "{answer}")?;
-            }
+    for byte in BufReader::new(rt.alloc(), rt.stdin())?.bytes() {
+        if let Some(answer) = table.hear(byte?) {
+            println!(rt; "{answer}")?;
         }
     }
     if let Some(answer) = table.finish() {

@@ -1,6 +1,6 @@
 //! The line that is being read.
 
-ghost use Rattle.std.specs.Prelude.{◌≡◌, ◌≤◌, length};
+use places::Places;
 
 mod hearing;
 
@@ -12,8 +12,5 @@ pub const LONGEST_LINE: usize = 80;
 /// A line of more than [`LONGEST_LINE`] bytes is refused whatever follows, so nothing beyond byte 81 is kept.
 #[derive(Clone, Copy)]
 pub struct Line {
-    bytes: [u8; 81],
-    len: usize,
-    ghost room: { length bytes ≡ 81 },
-    ghost within: { len ≤ 81 },
+    bytes: Places<u8, 81>,
 }

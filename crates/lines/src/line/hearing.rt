@@ -1,9 +1,12 @@
 //! How a line is read byte by byte.
 
 ghost use Rattle.std.specs.Prelude.{◌≡◌, ℕ, List, [], ◌∷◌, ◌++◌, Decides};
-ghost use Rattle.lines.specs.Hearing.{held, Heard};
+ghost use Rattle.lines.specs.Hearing.{held, Heard, OneMore};
+ghost use Rattle.lines.specs.Splitting.{ended, open_line, all_lines};
 
-use super::{LONGEST_LINE, Line};
+use super::Line;
+use crate::split::ends_line;
+use places::Places;
 
 impl Line {
     /// A line of which nothing is read yet.
@@ -11,33 +14,30 @@ impl Line {
         ensures heard { Heard result [] }
     {
         Line {
-            bytes: [0; 81],
-            len: 0,
+            bytes: Places::empty(0),
         }
     }
 
     /// Reads one byte more of the line. Beyond 81 bytes it keeps nothing more.
+    // stays (no plainer): a ghost field states a fact of the fields and keeps no value, so the clauses name the bytes read so far
     pub fn push(&mut self, byte: u8)
         ensures heard { (past : List ℕ) → Heard self.old past → Heard self.new (past ++ (byte ∷ [])) }
     {
-        if self.len <= LONGEST_LINE {
-            self.bytes[self.len] = byte;
-            self.len += 1;
-        }
+        let _ = self.bytes.push(byte);
     }
 
     /// Begins a new line.
     pub fn clear(&mut self)
         ensures heard { Heard self.new [] }
     {
-        self.len = 0;
+        self.bytes.clear();
     }
 
     /// The bytes of the line, at most its first 81.
     pub fn bytes(&self) -> &[u8]
         ensures held { result.now ≡ held self.now }
     {
-        &self.bytes[0..self.len]
+        self.bytes.as_slice()
     }
 
     /// Whether nothing of the line is read yet.
@@ -45,6 +45,27 @@ impl Line {
         ensures nothing_held { Decides result (held self.now ≡ []) }
         ensures nothing_heard { (past : List ℕ) → Heard self.now past → Decides result (past ≡ []) }
     {
-        self.len == 0
+        self.bytes.is_empty()
+    }
+    /// Hears one byte more of an input: the line that it ends, if it ends one. A new line then begins.
+    pub fn hear(&mut self, byte: u8) -> Option<Line>
+        ensures heard { (past : List ℕ) → Heard self.old (open_line past) → Heard self.new (open_line (past ++ (byte ∷ []))) }
+        ensures tells { (past : List ℕ) → Heard self.old (open_line past) → OneMore result (open_line past) (ended past) (ended (past ++ (byte ∷ []))) }
+    {
+        if ends_line(byte) {
+            let line = *self;
+            self.clear();
+            Some(line)
+        } else {
+            self.push(byte);
+            None
+        }
+    }
+
+    /// The last line of the input, if it is not empty: no byte 10 has ended it.
+    pub fn finish(&self) -> Option<Line>
+        ensures tells { (past : List ℕ) → Heard self.now (open_line past) → OneMore result (open_line past) (ended past) (all_lines past) }
+    {
+        (!self.is_empty()).then_some(*self)
     }
 }
