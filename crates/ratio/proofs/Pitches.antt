@@ -2,11 +2,13 @@
 use Rattle.std.proofs.Common.{◌≡◌, ℕ, zero, suc, ◌+◌, ◌*◌, ◌<◌, ◌≤◌, List, [], ◌∷◌, length, get_or, take, ℤ, pos, negsuc, ◌+ℤ◌, ◌*ℤ◌, neg_ℤ, nat_abs, sym, refl, ap, ◌∙◌, mul-le-mul_left, add-one, arith, w8, w32, SFits, to_z, of_z}
 use borrow.Author.Differences.{abs_is, neg_is}
 use lib.IntN.{+ℤ_comm, +ℤ_assoc}
-use Rattle.std.proofs.lemmas.Int.{ints, to_z-of_z}
+use Rattle.std.proofs.ByRecursion.{All-get_or}
+use Rattle.std.proofs.lemmas.Int.{ints}
 use Rattle.ratio.specs.Limits.{limits, Within}
 use Rattle.ratio.specs.Pitches.{prime_pitches, sum_of_pitches, ratio_pitch}
 use Rattle.ratio.specs.declared.ratio.Ratio.{Ratio}
 use Rattle.ratio.proofs.Limits.{ratio_within}
+use Rattle.ratio.proofs.Terms.{small_exponent}
 
 -- the same sum with each exponent at its limit
 abbrev largest : List ℤ → List ℕ → ℕ
@@ -47,15 +49,29 @@ partly_within r k = sum_within k prime_pitches r.exponents limits (omega (arith,
 pub pitch_within : (r : Ratio) → nat_abs (ratio_pitch r) ≤ 221404354
 pitch_within r = partly_within r 6
 
--- one more place: its part, and the sum with it, fit, and the sum is the next one
-pub sum_next : (r : Ratio) (k : ℕ) (total exponent : ℤ) → k < 6 → SFits w8 (get_or r.exponents k (pos 0)) → total ≡ sum_of_pitches (take k prime_pitches) r.exponents → exponent ≡ to_z w8 (of_z w8 (get_or r.exponents k (pos 0)))
-    → let part : ℤ = get_or prime_pitches k (pos 0) *ℤ exponent in
-    SFits w32 part × (SFits w32 (total +ℤ part) × (total +ℤ part ≡ sum_of_pitches (take (k + 1) prime_pitches) r.exponents))
-sum_next r k total exponent h fits before here =
-    let part : ℤ = get_or prime_pitches k (pos 0) *ℤ exponent in
-    let same : exponent ≡ get_or r.exponents k (pos 0) = here ∙ to_z-of_z w8 _ fits in
-    let next : total +ℤ part ≡ sum_of_pitches (take (k + 1) prime_pitches) r.exponents =
+pitch_small : (k : ℕ) → k < 6 → nat_abs (get_or prime_pitches k (pos 0)) ≤ 4440528
+pitch_small k h =
+    All-get_or (λ p. nat_abs p ≤ 4440528) prime_pitches k (pos 0) h (omega arith, (omega arith, (omega arith, (omega arith, (omega arith, (omega arith, tt))))))
+
+-- a number to its bits and back
+abbrev pub held : ℤ → ℤ
+held z = to_z w32 (of_z w32 z)
+
+-- one more place, as the code adds it: its part fits, the sum with it fits, and that is the next sum
+pub sum_next : (r : Ratio) (k : ℕ) (total pitch exponent given : ℤ) → k < 6 → total ≡ sum_of_pitches (take k prime_pitches) r.exponents
+    → pitch ≡ get_or prime_pitches k (pos 0) → exponent ≡ get_or r.exponents k (pos 0) → given ≡ to_z w8 (of_z w8 exponent)
+    → let part : ℤ = held pitch *ℤ held given in
+    let sum : ℤ = total +ℤ held part in
+    SFits w32 part × (SFits w32 sum × (held sum ≡ sum_of_pitches (take (k + 1) prime_pitches) r.exponents))
+sum_next r k total pitch exponent given h before p e g =
+    let next : total +ℤ (pitch *ℤ exponent) ≡ sum_of_pitches (take (k + 1) prime_pitches) r.exponents =
     rw add-one (cc (sum_suc k prime_pitches r.exponents h (omega (arith, r.six)))) in
     let low : nat_abs total ≤ 221404354 = rw before (partly_within r k) in
-    let high : nat_abs (total +ℤ part) ≤ 221404354 = rw next (partly_within r (k + 1)) in
-    (omega (arith, ints), (omega (arith, ints), next))
+    let high : nat_abs (total +ℤ (pitch *ℤ exponent)) ≤ 221404354 = rw next (partly_within r (k + 1)) in
+    let p_small : nat_abs pitch ≤ 4440528 = rw p (pitch_small k h) in
+    let e_small : nat_abs exponent ≤ 31 = rw e (small_exponent r k h) in
+    let p_is : held pitch ≡ pitch = omega (arith, ints) in
+    let e_is : held given ≡ exponent = omega (arith, ints) in
+    let part_is : held (pitch *ℤ exponent) ≡ pitch *ℤ exponent = omega (arith, ints) in
+    let sum_is : held (total +ℤ (pitch *ℤ exponent)) ≡ total +ℤ (pitch *ℤ exponent) = omega (arith, ints) in
+    rw (p_is, e_is, part_is, sum_is) (omega (arith, ints), (omega (arith, ints), next))

@@ -8,4 +8,5 @@ pub mod Limits
 pub mod Parts
 pub mod Pitches
 pub mod Words
+pub mod Part
 pub mod Scanning

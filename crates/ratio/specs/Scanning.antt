@@ -1,6 +1,6 @@
 -- The steps of the scanner of ratio words. Only the scanner's own contracts cite them, and no public contract does: what
 -- a word is read as stands in Words.
-use Rattle.std.specs.Prelude.{ℕ, ◌+◌, ◌-◌, ◌*◌, ◌^◌, ◌<◌, ◌≤◌, Bool, cond, ◌&&◌, Some, None, Option, ◌==◌, nat_le, nat_lt}
+use Rattle.std.specs.Prelude.{ℕ, ◌+◌, ◌-◌, ◌*◌, Bool, cond, ◌&&◌, Some, None, Option, ◌==◌, nat_le, nat_lt}
 use Rattle.ratio.specs.declared.word.Part.{Part}
 use Rattle.ratio.specs.declared.word.Scanner.{Scanner}
 use Rattle.ratio.specs.declared.word.Scanner.TheVariants.{Start, Numerator, SlashSeen, Denominator}
@@ -20,17 +20,6 @@ with_digit p c = record { number = p.number * 10 + (c - 48); digits = p.digits +
 -- whether a byte goes on with a part: it is a digit, and the part has fewer than ten
 abbrev pub goes_on : Part → ℕ → Bool
 goes_on p c = is_digit c && nat_lt p.digits 10
-
--- a part has at most ten digits, and its number is below that power of ten
-abbrev pub Short : Part → Type 0
-Short p = (p.digits ≤ 10) × (p.number < 10 ^ p.digits)
-
--- the part that a scanner is reading is short
-abbrev pub Sound : Scanner → Type 0
-Sound Start = Unit {0}
-Sound (Numerator n) = Short n
-Sound (SlashSeen n) = Unit {0}
-Sound (Denominator n d) = Short d
 
 -- the scanner s if a test holds, and else a refusal
 abbrev pub allowed : Bool → Scanner → Option Scanner

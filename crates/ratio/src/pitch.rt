@@ -17,8 +17,8 @@ impl Ratio {
         ensures { result ≡ ratio_pitch self.now }
     {
         let mut total = 0;
-        for place in 0..6 {
-            total += PRIME_PITCHES[place] * i32::from(self.exponents[place]);
+        for (pitch, exponent) in PRIME_PITCHES.iter().zip(&self.exponents) {
+            total += pitch * i32::from(*exponent);
         }
         total
     }

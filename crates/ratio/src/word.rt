@@ -1,8 +1,10 @@
 //! The words that write a ratio in a line.
 
-ghost use Rattle.std.specs.Prelude.{◌≡◌, ◌<◌, OnSome};
-ghost use Rattle.ratio.specs.Scanning.{Short, Sound, with_digit, step_of, stepped};
+ghost use Rattle.std.specs.Prelude.{◌≡◌, ◌<◌};
+ghost use Rattle.ratio.specs.Scanning.{with_digit, step_of, stepped};
 ghost use Rattle.ratio.specs.Words.{Digit, PartsRead};
+
+use std::marker::Model;
 
 /// The most digits that a number of a word may have.
 const MOST_DIGITS: u8 = 10;
@@ -14,6 +16,19 @@ struct Part {
     digits: u8,
 }
 
+impl Model for Part {
+    ghost use Rattle.std.specs.Prelude.{◌<◌, ◌^◌, ◌≤◌};
+    ghost use Rattle.ratio.specs.Part.{PartRead};
+
+    ghost Value = { PartRead };
+
+    ghost view = { λ p. record { number = p.number; digits = p.digits } };
+
+    ghost invariant = { λ p. (p.digits ≤ 10) × (p.number < 10 ^ p.digits) };
+
+    ghost inverse = { λ v. record { number = v.number; digits = v.digits } };
+}
+
 impl Part {
     /// A part before its first digit.
     const EMPTY: Part = Part {
@@ -23,9 +38,8 @@ impl Part {
 
     /// The part with one more digit.
     fn then(self, digit: u8) -> Part
-        requires { (Short self) × ((self.digits < 10) × (Digit digit)) }
-        ensures value { result ≡ with_digit self digit }
-        ensures short { Short result }
+        requires { (self.digits < 10) × Digit digit }
+        ensures { result ≡ with_digit self digit }
     {
         Part {
             number: self.number * 10 + u64::from(digit - b'0'),
@@ -49,19 +63,20 @@ enum Scanner {
 impl Scanner {
     /// Moves on by the next byte of the word. Refuses a byte by which no ratio word goes on.
     fn take(&mut self, byte: u8) -> Option<()>
-        requires { Sound self.old }
-        ensures moved { stepped result self.new ≡ step_of self.old byte }
-        ensures sound { OnSome result (Sound self.new) }
+        ensures { stepped result self.new ≡ step_of self.old byte }
     {
-        *self = match (*self, byte) {
+        *self = match (&*self, byte) {
             (Scanner::Start, b'0'..=b'9') => Scanner::Numerator(Part::EMPTY.then(byte)),
             (Scanner::Numerator(n), b'0'..=b'9') if n.digits < MOST_DIGITS => Scanner::Numerator(
                 n.then(byte),
             ),
             (Scanner::Numerator(n), b'/') => Scanner::SlashSeen(n.number),
-            (Scanner::SlashSeen(n), b'0'..=b'9') => Scanner::Denominator(n, Part::EMPTY.then(byte)),
+            (Scanner::SlashSeen(n), b'0'..=b'9') => Scanner::Denominator(
+                *n,
+                Part::EMPTY.then(byte),
+            ),
             (Scanner::Denominator(n, d), b'0'..=b'9') if d.digits < MOST_DIGITS =>
-                Scanner::Denominator(n, d.then(byte)),
+                Scanner::Denominator(*n, d.then(byte)),
             _ => return None,
         };
         Some(())

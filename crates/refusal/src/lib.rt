@@ -15,16 +15,25 @@ pub enum Layer {
     Search,
 }
 
+impl Layer {
+    /// The word by which the layer is told.
+    pub fn word(self) -> &'static str
+        ensures { result.now ≡ layer_word self }
+    {
+        match self {
+            Layer::Text => "text",
+            Layer::Ratio => "ratio",
+            Layer::Draft => "draft",
+            Layer::Search => "search",
+        }
+    }
+}
+
 impl fmt::Display for Layer {
     ghost output = { λ layer. Some (layer_word layer) };
 
     fn fmt<W: fmt::Write>(&self, f: &mut fmt::Formatter<W>) -> fmt::Result {
-        match self {
-            Layer::Text => f.write_str("text"),
-            Layer::Ratio => f.write_str("ratio"),
-            Layer::Draft => f.write_str("draft"),
-            Layer::Search => f.write_str("search"),
-        }
+        f.write_str(self.word())
     }
 }
 
@@ -42,9 +51,11 @@ impl fmt::Display for Refusal {
     ghost output = { λ refusal. Some (refusal_line refusal) };
 
     fn fmt<W: fmt::Write>(&self, f: &mut fmt::Formatter<W>) -> fmt::Result {
-        let layer = self.layer;
-        let number = self.number;
-        let column = self.column;
+        let Refusal {
+            layer,
+            number,
+            column,
+        } = self;
         write!(f, "no {layer} {number} {column}")
     }
 }

@@ -11,7 +11,7 @@ loop-byte-preserved c = search (rules, run_more)
 
 pub returns-in-Denominator : goal.returns-in-Denominator
 returns-in-Denominator c =
-    record { form = scan_reads c.args.word.now (Some (c.in-Denominator.n, c.in-Denominator.d.number)) (search (rules, run_ends)) }
+    record { form = scan_reads c.args.word.now (Some (c.in-Denominator.n, c.d.inside.number)) (search (rules, run_ends)) }
 
 pub returns-in_default : goal.returns-in_default
 returns-in_default c =
