@@ -3,7 +3,7 @@ use Rattle.draft.specs.Held.{book_of}
 use Rattle.draft.proofs.Holding.{held_count, held_book}
 use Rattle.settling.specs.Posed.{meant}
 use Rattle.settling.specs.Settling.{Lawful}
-use Rattle.costing.specs.Stacks.{stacked, room}
+use Rattle.costing.specs.Stacks.{room}
 use Rattle.std.proofs.lemmas.List.{length-take-le}
 use Rattle.std.proofs.lemmas.Result.{err_from_is_err_and}
 use Rattle.settling.specs.Promise.{Settling}
@@ -38,7 +38,7 @@ returns-in_err-descend g c =
     let some : 0 < d.count = omega (arith, held_count d (book_of d) (held_book d), c.tones-tones.ensures.by_book (book_of d) (held_book d), c.if-tones-eq0.false) in
     let size = c.over-partial.ensures.size in
     let empty = c.over-partial.ensures.empty in
-    let on = pushed c.push.result (room c.over-partial.result) c.nothing.result (stacked c.over-partial.result) (stacked c.push.new.self) c.push.ensures.put (omega (arith, ap length empty, c.if-stack-lt-STACK_PLACES.false)) in
+    let on = pushed c.push.result (room c.over-partial.result) c.nothing.result c.over-partial.result.values c.push.new.self.values c.push.ensures.put (omega (arith, ap length empty, c.if-stack-lt-STACK_PLACES.false)) in
     let over = c.in_err-descend.ensures.searched [] C.nil (on ∙ (ap (λ xs. xs ++ (c.nothing.result ∷ [])) empty ∙ ap (λ v. v ∷ []) c.nothing.ensures)) in
     let p = err_from_is_err_and c.from_residual.result c.from_residual.ensures.1 in
     record {
@@ -55,7 +55,7 @@ returns-in_default g c =
     let some : 0 < d.count = omega (arith, held_count d (book_of d) (held_book d), c.tones-tones.ensures.by_book (book_of d) (held_book d), c.if-tones-eq0.false) in
     let empty = c.over-partial.ensures.empty in
     let size = c.over-partial.ensures.size in
-    let on = pushed c.push.result (room c.over-partial.result) c.nothing.result (stacked c.over-partial.result) (stacked c.push.new.self) c.push.ensures.put (omega (arith, ap length empty, c.if-stack-lt-STACK_PLACES.false)) in
+    let on = pushed c.push.result (room c.over-partial.result) c.nothing.result c.over-partial.result.values c.push.new.self.values c.push.ensures.put (omega (arith, ap length empty, c.if-stack-lt-STACK_PLACES.false)) in
     let went = c.in_ok-descend.ensures.searched [] C.nil (on ∙ (ap (λ xs. xs ++ (c.nothing.result ∷ [])) empty ∙ ap (λ v. v ∷ []) c.nothing.ensures)) in
     record {
       settles = λ b h. none_settles dist cst (lawful g) d c.args.allowance (length c.args.stack.now) (omega (arith, c.if-allowance-gt-LARGEST_ALLOWANCE.false)) (omega (arith, c.if-stack-lt-STACK_PLACES.false)) some _ refl refl c.descend.new.search went c.in_default.is b h c.args.sheet.now;
@@ -78,7 +78,7 @@ returns g c =
     let some : 0 < d.count = omega (arith, held_count d (book_of d) (held_book d), count (book_of d) (held_book d), c.if-tones-eq0.false) in
     let empty = c.over-partial.ensures.empty in
     let size = c.over-partial.ensures.size in
-    let on = pushed c.push.result (room c.over-partial.result) c.nothing.result (stacked c.over-partial.result) (stacked c.push.new.self) c.push.ensures.put (omega (arith, ap length empty, c.if-stack-lt-STACK_PLACES.false)) in
+    let on = pushed c.push.result (room c.over-partial.result) c.nothing.result c.over-partial.result.values c.push.new.self.values c.push.ensures.put (omega (arith, ap length empty, c.if-stack-lt-STACK_PLACES.false)) in
     let went = c.in_ok-descend.ensures.searched [] C.nil (on ∙ (ap (λ xs. xs ++ (c.nothing.result ∷ [])) empty ∙ ap (λ v. v ∷ []) c.nothing.ensures)) in
     let n = c.tones-tones.result in
     let after = c.copy_from_slice.ensures.after in
