@@ -25,7 +25,7 @@ pub(crate) fn told_at(read: Result<Command, TextFault>, fault: SessionFault, ton
             fault,
             tones,
         ),
-        (_, SessionFault::Search(SearchFault::OutOfLimits)) => command.columns.first,
+        (_, SessionFault::Search(SearchFault::OutOfLimits)) => command.columns.first.unwrap_or(0),
         _ => 1,
     }
 }
@@ -43,7 +43,7 @@ fn draft_column(columns: Columns, call: Call, fault: DraftFault, tones: usize) -
                 other: _,
                 bound: _,
             },
-        ) => columns.third,
+        ) => columns.third.unwrap_or(0),
         (
             DraftFault::NoTone,
             Call::Bound {
@@ -51,10 +51,11 @@ fn draft_column(columns: Columns, call: Call, fault: DraftFault, tones: usize) -
                 other: _,
                 bound: _,
             },
-        ) if tone < tones => columns.second,
-        (DraftFault::Entry(_) | DraftFault::SameTone | DraftFault::NoCandidate, _) =>
-            columns.second,
+        ) if tone < tones => columns.second.unwrap_or(0),
+        (DraftFault::Entry(_) | DraftFault::SameTone | DraftFault::NoCandidate, _) => columns
+            .second
+            .unwrap_or(0),
         (DraftFault::TonesFull, _) => 1,
-        _ => columns.first,
+        _ => columns.first.unwrap_or(0),
     }
 }
