@@ -9,11 +9,10 @@ ghost use Rattle.session.specs.Obeying.{Obeyed};
 ghost use Rattle.settling.specs.Costings.{total};
 ghost use Rattle.settling.specs.Promise.{Settling};
 
-use super::{ANSWER_ROOM, Reply, Session};
+use super::{ANSWER_ROOM, Session};
 use crate::blame::told_at;
 use crate::fault::SessionFault;
-use crate::page::{put_refusal, put_text};
-use crate::scale::put_scale;
+use crate::page::Page;
 use command::command::Command;
 use command::fault::TextFault;
 use costing::total::Total;
@@ -48,27 +47,29 @@ impl Session {
         }
         let tones = self.draft.tones();
         let read = Command::read(line);
-        let end = match self.obey(read) {
-            Ok(reply) => match reply {
-                Reply::Entered => put_text(answer, 0, b"ok\n"),
-                Reply::Scale(settled) => put_scale(answer, &self.draft, &self.sheet, settled),
-            },
+        let mut page = Page::over(answer);
+        match self.obey(read) {
+            Ok(None) => page.text(b"ok\n"),
+            Ok(Some(settled)) => page.scale(&self.draft, &self.sheet, settled),
             Err(fault) => {
                 let column = told_at(read, fault, tones);
-                put_refusal(answer, 0, fault.refusal(column))
+                page.refusal(fault.refusal(column));
             }
-        };
-        Ok(end)
+        }
+        Ok(page.end())
     }
 
-    /// Takes the step that was read: enters something into the draft, or settles it.
-    fn obey(&mut self, read: Result<Command, TextFault>) -> Result<Reply, SessionFault>
+    /// Takes the step that was read: enters something into the draft, or settles it, which gives a scale.
+    fn obey(
+        &mut self,
+        read: Result<Command, TextFault>,
+    ) -> Result<Option<Settled<u64>>, SessionFault>
         ensures obeyed { Obeyed read self.old self.new result }
     {
         match read?.step {
             Step::Enter { call } => {
                 self.draft.put(call)?;
-                Ok(Reply::Entered)
+                Ok(None)
             }
             Step::Settle { allowance } => {
                 let settled = settle_by_barlow(
@@ -77,7 +78,7 @@ impl Session {
                     &mut self.sheet,
                     &mut self.stack,
                 )?;
-                Ok(Reply::Scale(settled))
+                Ok(Some(settled))
             }
         }
     }
