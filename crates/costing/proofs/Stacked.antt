@@ -1,5 +1,7 @@
--- The last of a front of a list, and a value put on a list and taken off again.
-use Rattle.std.proofs.Common.{◌≡◌, ℕ, ◌+◌, ◌-◌, ◌<◌, ◌≤◌, List, [], ◌∷◌, ◌++◌, length, get_or, take, Some, None, Option, sym, ap, ◌∙◌, arith}
+-- The last of a list taken off, and a value put on a list and taken off again.
+use Rattle.std.proofs.Common.{◌≡◌, ℕ, suc, ◌+◌, ◌-◌, ◌<◌, ◌≤◌, List, [], ◌∷◌, ◌++◌, length, get_or, take, Some, None, Option, sym, refl, ap, ◌∙◌, take_all, arith}
+use Rattle.std.specs.List.{slice_get}
+use Rattle.std.proofs.lemmas.Option.{slice_get-get_or}
 use Rattle.std.proofs.lemmas.List.{take_more, length_push, same_from_push}
 use Rattle.costing.specs.Stacks.{TakenOff}
 
@@ -9,6 +11,15 @@ front_last xs n v some within read =
     let back : n - 1 + 1 ≡ n = omega arith in
     let all = take_more xs (n - 1) v (omega arith) in
     cc
+
+-- the last value of a list, if there is one, taken off
+pub last_off : {V : Type 0} (xs : List V) → TakenOff (slice_get xs (length xs - 1)) xs (take (length xs - 1) xs)
+last_off [] = (refl, refl)
+last_off (x ∷ xs) =
+    let end : suc (length xs) - 1 ≡ length xs = omega arith in
+    let within : length xs < length (x ∷ xs) = omega arith in
+    let all = take_all (length xs + 1) (x ∷ xs) (omega arith) in
+    rw (end, slice_get-get_or (x ∷ xs) (length xs) x within) (sym all ∙ take_more (x ∷ xs) (length xs) x within)
 
 -- what is taken off is what was put on
 pub taken_put : {V : Type 0} (r : Option V) (xs ys rest : List V) (v : V) → ys ≡ xs ++ (v ∷ []) → TakenOff r ys rest → (r ≡ Some v) × (rest ≡ xs)

@@ -1,19 +1,19 @@
 -- What a stack holds, and what putting a value on and taking one off does to it.
-use Rattle.std.specs.Prelude.{◌≡◌, ℕ, Bool, true, false, List, [], ◌∷◌, ◌++◌, length, take, Some, None, Option}
-use Rattle.costing.specs.declared.stack.Stack.{Stack}
+use Rattle.std.specs.Prelude.{◌≡◌, ℕ, ◌+◌, List, [], ◌∷◌, ◌++◌, length, Ok, Err, Result, Some, None, Option}
 
--- the values held, the bottom first
-abbrev pub stacked : {V : Type 0} → Stack V → List V
-stacked s = take s.height s.slots.now
+-- the values held, the bottom first, and how many slots are free
+pub record Held (V : Type 0) : Type 0 where
+  pub values : List V
+  pub free : ℕ
 
 -- how many slots there are
-abbrev pub room : {V : Type 0} → Stack V → ℕ
-room s = length s.slots.now
+abbrev pub room : {V : Type 0} → Held V → ℕ
+room s = length s.values + s.free
 
--- v put on the values before, with room for n: it comes last; or, where there are n already, they stay as they were
-abbrev pub PutOn : {V : Type 0} → Bool → ℕ → V → List V → List V → Type 0
-PutOn true n v before after = after ≡ before ++ (v ∷ [])
-PutOn false n v before after = (length before ≡ n) × (after ≡ before)
+-- v put on the values before, with room for n: it comes last; or, where there are n already, it is refused and they stay as they were
+abbrev pub PutOn : {U E V : Type 0} → Result U E → ℕ → V → List V → List V → Type 0
+PutOn (Ok _) n v before after = after ≡ before ++ (v ∷ [])
+PutOn (Err _) n v before after = (length before ≡ n) × (after ≡ before)
 
 -- the last of the values before taken off, which leaves the others; or, where there is none, no value
 abbrev pub TakenOff : {V : Type 0} → Option V → List V → List V → Type 0

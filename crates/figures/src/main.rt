@@ -16,9 +16,9 @@ use measure::measure::Measure;
 use measure::pitch::PitchGap;
 use measure::weighted::WeightedPrimes;
 use settling::fault::SearchFault;
-use settling::replay::replay;
 use settling::settle::{LARGEST_ALLOWANCE, STACK_PLACES};
 use settling::step::{Answer, Entry, Step};
+use settling::yardstick::Yardstick;
 use std::fmt::Debug;
 use std::io;
 
@@ -52,39 +52,29 @@ fn show_entry<V: Copy + Debug>(rt: &HostRuntime, title: &str, entry: &Entry<V>) 
             show_fault(rt, fault)?;
         }
     }
-    let first = entry.sheet[0];
-    let second = entry.sheet[1];
-    let third = entry.sheet[2];
+    let [first, second, third, ..] = entry.sheet;
     println!(rt; ", sheet {first} {second} {third}")
 }
 
-/// Puts the steps to a new draft by a measure and a costing, and prints what the run records.
+/// Puts the steps to a new draft, settles it by the yardstick, and prints what the run records.
 fn show_run<M: Measure, C: Costing>(
     rt: &HostRuntime,
     title: &str,
-    measure: &M,
-    costing: &C,
+    yardstick: &Yardstick<M, C>,
     steps: &[Step],
 ) -> io::Result<()>
 where
     C::Value: Clone + Debug,
 {
     let heap = rt.alloc();
-    let mut stack = vec![in heap; costing.nothing(); STACK_PLACES]?;
+    let mut stack = vec![in heap; yardstick.costing.nothing(); STACK_PLACES]?;
     let mut sheet = [UNTOUCHED; 32];
     let blank = Entry {
         answer: Answer::Entered { told: Ok(()) },
         sheet,
     };
     let mut entries = vec![in heap; blank; steps.len()]?;
-    let _ = replay(
-        measure,
-        costing,
-        steps,
-        &mut stack,
-        &mut sheet,
-        &mut entries,
-    );
+    let _ = yardstick.replay(steps, &mut stack, &mut sheet, &mut entries);
     for entry in entries.iter() {
         show_entry(rt, title, entry)?;
     }
@@ -135,53 +125,57 @@ fn triad(bound: u64, allowance: u64) -> [Step; 10]
 
 /// The triad by each costing, and by the gap in pitch, which puts both fifths over the bound.
 fn measured(rt: &HostRuntime) -> io::Result<()> {
-    let barlow = WeightedPrimes::barlow();
+    let measure = &WeightedPrimes::barlow();
     let steps = triad(600_600, LARGEST_ALLOWANCE);
-    show_run(rt, "triad by total", &barlow, &Total, &steps)?;
-    show_run(rt, "triad by worst", &barlow, &Worst, &steps)?;
-    show_run(
-        rt,
-        "triad by worst then total",
-        &barlow,
-        &WorstThenTotal,
-        &steps,
-    )?;
-    show_run(rt, "triad by pitch gap", &PitchGap, &Total, &steps)
+    let total = Yardstick {
+        measure,
+        costing: &Total,
+    };
+    show_run(rt, "triad by total", &total, &steps)?;
+    let worst = Yardstick {
+        measure,
+        costing: &Worst,
+    };
+    show_run(rt, "triad by worst", &worst, &steps)?;
+    let worst_then_total = Yardstick {
+        measure,
+        costing: &WorstThenTotal,
+    };
+    show_run(rt, "triad by worst then total", &worst_then_total, &steps)?;
+    let pitch_gap = Yardstick {
+        measure: &PitchGap,
+        costing: &Total,
+    };
+    show_run(rt, "triad by pitch gap", &pitch_gap, &steps)
 }
 
 /// The triad under bounds that its best scale just keeps and just breaks, the latter with trials enough and too few.
 fn bounded(rt: &HostRuntime) -> io::Result<()> {
-    let barlow = WeightedPrimes::barlow();
+    let yardstick = Yardstick {
+        measure: &WeightedPrimes::barlow(),
+        costing: &Total,
+    };
     let kept = triad(302_302, LARGEST_ALLOWANCE);
-    show_run(rt, "triad within 302302", &barlow, &Total, &kept)?;
+    show_run(rt, "triad within 302302", &yardstick, &kept)?;
     let broken = triad(302_301, 5);
-    show_run(
-        rt,
-        "triad within 302301, allowance 5",
-        &barlow,
-        &Total,
-        &broken,
-    )?;
+    show_run(rt, "triad within 302301, allowance 5", &yardstick, &broken)?;
     let spent = triad(302_301, 4);
-    show_run(
-        rt,
-        "triad within 302301, allowance 4",
-        &barlow,
-        &Total,
-        &spent,
-    )
+    show_run(rt, "triad within 302301, allowance 4", &yardstick, &spent)
 }
 
 /// A single tone, which costs nothing: of equal candidates the first, and of no candidate none.
 fn single(rt: &HostRuntime) -> io::Result<()> {
-    let barlow = WeightedPrimes::barlow();
+    let yardstick = Yardstick {
+        measure: &WeightedPrimes::barlow(),
+        costing: &Total,
+    };
     let settle = Step::Settle {
         allowance: LARGEST_ALLOWANCE,
     };
     let equals = [tone(0), candidate(0, 81, 80), candidate(0, 1, 1), settle];
-    show_run(rt, "two candidates", &barlow, &Total, &equals)?;
+    show_run(rt, "two candidates", &yardstick, &equals)?;
     let none = [tone(0), Step::Settle { allowance: 0 }];
-    show_run(rt, "no candidate, allowance 0", &barlow, &Total, &none)
+    show_run(rt, "no candidate, allowance 0", &yardstick, &none)
 }
 
 fn main(rt: HostRuntime) -> io::Result<()> {

@@ -8,14 +8,14 @@ use costing::total::Total;
 use costing::worst::Worst;
 use costing::worst_then_total::WorstThenTotal;
 use draft::draft::Draft;
+use lines::fixed::Hundredths;
 use measure::blind::OctaveBlind;
 use measure::measure::Measure;
 use measure::pitch::PitchGap;
 use measure::weighted::WeightedPrimes;
-use settling::fault::SearchFault;
-use settling::settle::run::settle;
 use settling::settle::{STACK_PLACES, Settled, Sheet};
 use settling::step::Step;
+use settling::yardstick::Yardstick;
 use std::io;
 use std::io::{BufRead, BufReader};
 
@@ -35,6 +35,25 @@ enum CostingName {
     Total,
     Worst,
     WorstThenTotal,
+}
+
+/// A cost as the answer to a settling tells it.
+trait Told {
+    /// Prints the cost.
+    fn tell(&self, rt: &HostRuntime) -> io::Result<()>;
+}
+
+impl Told for u64 {
+    fn tell(&self, rt: &HostRuntime) -> io::Result<()> {
+        print!(rt; "{self}")
+    }
+}
+
+impl Told for (u64, u64) {
+    fn tell(&self, rt: &HostRuntime) -> io::Result<()> {
+        let (worst, total) = self;
+        print!(rt; "{worst},{total}")
+    }
 }
 
 /// What a session has entered, and by what it settles.
@@ -75,7 +94,7 @@ impl Desk {
         }
     }
 
-    /// Settles by a measure and the costing that was chosen, and prints the answer.
+    /// Settles by a measure and the costing that was chosen.
     fn settle_by<M: Measure>(
         &mut self,
         rt: &HostRuntime,
@@ -83,95 +102,61 @@ impl Desk {
         allowance: u64,
     ) -> io::Result<()> {
         match self.costing {
-            CostingName::Total => {
-                let told = settled(rt, self, measure, &Total, allowance)?;
-                self.tell_one(rt, told)
-            }
-            CostingName::Worst => {
-                let told = settled(rt, self, measure, &Worst, allowance)?;
-                self.tell_one(rt, told)
-            }
+            CostingName::Total => self.tell_settling(rt, measure, &Total, allowance),
+            CostingName::Worst => self.tell_settling(rt, measure, &Worst, allowance),
             CostingName::WorstThenTotal => {
-                match settled(rt, self, measure, &WorstThenTotal, allowance)? {
-                    Ok(scale) => {
-                        let (worst, total) = scale.cost;
-                        let trials = scale.trials;
-                        println!(rt; "scale {worst},{total} {trials}")?;
-                        self.tell_tones(rt)
-                    }
-                    Err(fault) => tell_fault(rt, fault),
-                }
+                self.tell_settling(rt, measure, &WorstThenTotal, allowance)
             }
         }
     }
 
-    /// Prints a scale whose cost is one number, or why there is none.
-    fn tell_one(
-        &self,
+    /// Settles by a measure and a costing, with a stack from the heap, and prints the answer.
+    fn tell_settling<M: Measure, C: Costing>(
+        &mut self,
         rt: &HostRuntime,
-        told: Result<Settled<u64>, SearchFault>,
-    ) -> io::Result<()> {
-        match told {
-            Ok(scale) => {
-                let cost = scale.cost;
-                let trials = scale.trials;
-                println!(rt; "scale {cost} {trials}")?;
+        measure: &M,
+        costing: &C,
+        allowance: u64,
+    ) -> io::Result<()>
+    where
+        C::Value: Clone + Told,
+    {
+        let mut stack = vec![in rt.alloc(); costing.nothing(); STACK_PLACES]?;
+        let yardstick = Yardstick { measure, costing };
+        match yardstick.settle(&self.draft, allowance, &mut self.sheet, &mut stack) {
+            Ok(Settled { cost, trials }) => {
+                print!(rt; "scale ")?;
+                cost.tell(rt)?;
+                println!(rt; " {trials}")?;
                 self.tell_tones(rt)
             }
-            Err(fault) => tell_fault(rt, fault),
+            Err(fault) => {
+                let refusal = fault.refusal(1);
+                println!(rt; "{refusal}")
+            }
         }
     }
 
     /// Prints the ratio of each tone, and how far it lies from the tone's pitch.
     fn tell_tones(&self, rt: &HostRuntime) -> io::Result<()> {
-        for tone in 0..self.draft.tones() {
-            let number = self.sheet.get(tone).copied().unwrap_or(0);
-            let Some(candidates) = self.draft.candidates(tone) else {
+        for (tone, number) in self.sheet.iter().enumerate() {
+            let (Some(candidates), Some(pitch)) = (
+                self.draft.candidates(tone),
+                self.draft.pitch(tone),
+            ) else {
                 return Ok(());
             };
-            let Some(ratio) = candidates.get(usize::from(number)) else {
+            let Some(ratio) = candidates.get(usize::from(*number)) else {
                 return Ok(());
             };
-            let pitch = self.draft.pitch(tone).unwrap_or(0);
-            let above = i64::from(ratio.pitch()) - i64::from(pitch);
-            let hundredths = above.unsigned_abs() / 10;
-            let sign = if above <= -10 { "-" } else { "+" };
-            let cents = hundredths / 100;
-            let tenth = hundredths / 10 % 10;
-            let hundredth = hundredths % 10;
-            println!(rt; "{ratio} {sign}{cents}.{tenth}{hundredth}")?;
+            let hundredths = ratio.pitch().abs_diff(pitch) / 10;
+            let below = ratio.pitch() < pitch && hundredths > 0;
+            let sign = if below { '-' } else { '+' };
+            let cents = Hundredths(hundredths);
+            println!(rt; "{ratio} {sign}{cents}")?;
         }
         Ok(())
     }
-}
-
-/// Settles the draft on the desk, with a stack from the heap.
-fn settled<M: Measure, C: Costing>(
-    rt: &HostRuntime,
-    desk: &mut Desk,
-    measure: &M,
-    costing: &C,
-    allowance: u64,
-) -> io::Result<Result<Settled<C::Value>, SearchFault>>
-where
-    C::Value: Clone,
-{
-    let mut stack = vec![in rt.alloc(); costing.nothing(); STACK_PLACES]?;
-    let draft = desk.draft;
-    Ok(settle(
-        &draft,
-        measure,
-        costing,
-        allowance,
-        &mut desk.sheet,
-        &mut stack,
-    ))
-}
-
-/// Prints why there is no scale.
-fn tell_fault(rt: &HostRuntime, fault: SearchFault) -> io::Result<()> {
-    let refusal = fault.refusal(1);
-    println!(rt; "{refusal}")
 }
 
 /// Answers one line; columns are told only of the text.

@@ -1,5 +1,5 @@
 -- The steps of the search in the code, against the search as a function.
-use Rattle.std.proofs.Common.{◌≡◌, ℕ, zero, suc, ◌+◌, ◌<◌, ◌≤◌, Bool, true, false, List, [], ◌∷◌, ◌++◌, map, length, get_or, take, drop, set, Some, None, fold, Option, sym, refl, ap, ◌∙◌, subst, arith}
+use Rattle.std.proofs.Common.{◌≡◌, ℕ, zero, suc, ◌+◌, ◌<◌, ◌≤◌, true, false, List, [], ◌∷◌, ◌++◌, map, length, get_or, take, drop, set, Some, None, Ok, Err, Result, fold, Option, sym, refl, ap, ◌∙◌, subst, arith}
 use Rattle.costing.specs.Stacks.{PutOn}
 use Rattle.std.specs.Option.{option_map}
 use Rattle.std.specs.List.{slice_get}
@@ -200,6 +200,6 @@ laid_read laid e k y less long = get_or_default laid e y (get_or laid e y) (omeg
 -- ---- the stack
 
 -- there is room, so the value is put on
-pub pushed : {V : Type 0} (r : Bool) (n : ℕ) (v : V) (before after : List V) → PutOn r n v before after → length before < n → after ≡ before ++ (v ∷ [])
-pushed true n v before after put less = put
-pushed false n v before after put less = absurd (omega (arith, put.0))
+pub pushed : {U E V : Type 0} (r : Result U E) (n : ℕ) (v : V) (before after : List V) → PutOn r n v before after → length before < n → after ≡ before ++ (v ∷ [])
+pushed (Ok _) n v before after put less = put
+pushed (Err _) n v before after put less = absurd (omega (arith, put.0))

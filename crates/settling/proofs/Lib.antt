@@ -11,6 +11,5 @@ pub mod Ordered
 pub mod Costings
 pub mod Graef
 pub mod Descent
-pub mod Written
 pub mod Settled
 pub mod Runs

@@ -1,6 +1,5 @@
 -- From what the search has found to what a settling promises. Assumes nothing.
 use Rattle.std.proofs.Common.{◌≡◌, ℕ, ◌<◌, ◌≤◌, List, [], ◌++◌, length, take, drop, Some, None, Ok, Err, Result, sym, refl, ap, ◌∙◌, subst, arith}
-use Rattle.std.proofs.lemmas.List.{length-take-le}
 use Rattle.std.proofs.lemmas.Bool.Decides.{nat_tests}
 use Rattle.draft.specs.Book.{Book}
 use Rattle.draft.specs.Held.{Holds}
@@ -50,15 +49,15 @@ module _ {V : Type 0} (dist : Ratio → Ratio → ℕ) (c : Costing V) (law : La
         by_well_put b h (Err (NoScale s.trials)) sheet sheet
         (omega arith, tried, done.no_choice (ap (λ o. seen (length b.tones) o s.sheet) e), refl)
 
-    pub best_settles : (v : V) → s.best ≡ Some v → length s.sheet ≡ 32 → (b : Book) → Holds d b → (before after : List ℕ) (n : ℕ) → n ≡ length b.tones → n ≤ 32
+    pub best_settles : (v : V) → s.best ≡ Some v → (b : Book) → Holds d b → (before after : List ℕ) (n : ℕ) → n ≡ length b.tones → length (take n s.sheet) ≡ n
         → after ≡ take n s.sheet ++ drop n before → Settling dist c b allowance places (Ok (record { cost = v; trials = s.trials })) before after
-    best_settles v e long b h before after n count few written =
+    best_settles v e b h before after n count long written =
         let done = settles b h in
         let within = went.within in
         let tried = done.tried in
         let choice = take (length b.tones) s.sheet in
         let best = done.best_choice v choice (ap (λ o. seen (length b.tones) o s.sheet) e) in
-        let size : length choice ≡ n = length-take-le (length b.tones) s.sheet (omega arith) ∙ sym count in
+        let size : length choice ≡ n = ap (λ m. length (take m s.sheet)) (sym count) ∙ long in
         by_well_put b h (Ok (record { cost = v; trials = s.trials })) before after (record {
           allowed = omega arith;
           counted = tried;

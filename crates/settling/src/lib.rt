@@ -2,7 +2,7 @@
 #![tactic(auto)]
 
 pub mod fault;
-pub mod replay;
 mod search;
 pub mod settle;
 pub mod step;
+pub mod yardstick;

@@ -1,9 +1,5 @@
 //! Settling a draft.
 
-ghost use Rattle.std.specs.Prelude.{◌≡◌, ◌≤◌, ◌++◌, length, take, drop};
-
-pub mod run;
-
 /// The places for the candidate numbers of a scale, one for each of the most tones that a draft may have.
 pub type Sheet = [u8; 32];
 
@@ -18,15 +14,4 @@ pub const STACK_PLACES: usize = 33;
 pub struct Settled<V: Copy> {
     pub cost: V,
     pub trials: u64,
-}
-
-/// Copies the first numbers to the sheet; its other places stay.
-fn write_out(sheet: &mut Sheet, numbers: &Sheet, count: usize)
-    requires { count ≤ 32 }
-    ensures long { length numbers.now ≡ 32 }
-    ensures written { sheet.new ≡ take count numbers.now ++ drop count sheet.old }
-{
-    for place in 0..count {
-        sheet[place] = numbers[place];
-    }
 }

@@ -2,7 +2,7 @@
 
 ghost use Rattle.std.specs.Prelude.{◌≡◌, ◌<◌, length, MatchOption};
 
-use super::Stack;
+use super::{Full, Stack};
 use crate::costing::Costing;
 use crate::total::Total;
 use crate::worst_then_total::WorstThenTotal;
@@ -18,13 +18,9 @@ fn climbed<C: Costing>(
 {
     let mut stack = Stack::over(slots);
     let low = costing.of(first);
-    if !stack.push(low) {
-        return None;
-    }
+    stack.push(low).ok()?;
     let high = costing.joined(low, costing.of(second));
-    if !stack.push(high) {
-        return None;
-    }
+    stack.push(high).ok()?;
     stack.top()
 }
 
@@ -34,9 +30,9 @@ fn totals(rt: HostRuntime) {
     assert_eq!(rt; climbed(&Total, &mut slots, 3, 4), Some(7));
     let mut stack = Stack::over(&mut slots);
     assert_eq!(rt; stack.top(), None);
-    assert!(rt; stack.push(5));
-    assert!(rt; stack.push(6));
-    assert!(rt; !stack.push(7));
+    assert_eq!(rt; stack.push(5), Ok(()));
+    assert_eq!(rt; stack.push(6), Ok(()));
+    assert_eq!(rt; stack.push(7), Err(Full));
     assert_eq!(rt; stack.pop(), Some(6));
     assert_eq!(rt; stack.height(), 1);
 }

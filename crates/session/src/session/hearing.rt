@@ -20,9 +20,9 @@ use draft::draft::Draft;
 use measure::weighted::WeightedPrimes;
 use refusal::Refusal;
 use settling::fault::SearchFault;
-use settling::settle::run::settle;
 use settling::settle::{Settled, Sheet};
 use settling::step::Step;
+use settling::yardstick::Yardstick;
 
 impl Session {
     /// A session that has heard nothing.
@@ -93,12 +93,10 @@ fn settle_by_barlow(
 ) -> Result<Settled<u64>, SearchFault>
     ensures settles { (b : Book) → Holds draft.now b → Settling barlow total b allowance 33 result sheet.old sheet.new }
 {
-    settle(
-        draft,
-        &WeightedPrimes::barlow(),
-        &Total,
-        allowance,
-        sheet,
-        stack,
-    )
+    let barlow = WeightedPrimes::barlow();
+    let yardstick = Yardstick {
+        measure: &barlow,
+        costing: &Total,
+    };
+    yardstick.settle(draft, allowance, sheet, stack)
 }

@@ -1,7 +1,7 @@
 //! The search below a start.
 
 ghost use Rattle.std.specs.Prelude.{◌≡◌, ◌+◌, ◌≤◌, List, [], ◌∷◌, ◌++◌, length, MatchResult, OnOk};
-ghost use Rattle.costing.specs.Stacks.{stacked, room};
+ghost use Rattle.costing.specs.Stacks.{room};
 ghost use Rattle.settling.specs.Posed.{meant};
 ghost use Rattle.settling.specs.Searching.{Went, Overspent};
 
@@ -23,9 +23,9 @@ pub(crate) fn descend<M: Measure, C: Costing>(
     allowance: u64,
     k: usize,
 ) -> Result<(), Spent>
-    requires { (length (stacked stack.old) ≡ k + 1) × (33 ≤ room stack.old) × (k ≤ draft.now.count) × (search.old.trials ≤ allowance) }
-    ensures stacked { OnOk result ((stacked stack.new ≡ stacked stack.old) × (room stack.new ≡ room stack.old)) }
-    ensures searched { (rest : List C.Value) (v : C.Value) → stacked stack.old ≡ rest ++ (v ∷ []) → MatchResult result (λ _. Went (M.Measure.dist measure.now) (meant C.Costing) draft.now allowance k v search.old search.new) (λ _. Overspent (M.Measure.dist measure.now) (meant C.Costing) draft.now allowance k v search.old) }
+    requires { (length stack.old.values ≡ k + 1) × (33 ≤ room stack.old) × (k ≤ draft.now.count) × (search.old.trials ≤ allowance) }
+    ensures stacked { OnOk result ((stack.new.values ≡ stack.old.values) × (room stack.new ≡ room stack.old)) }
+    ensures searched { (rest : List C.Value) (v : C.Value) → stack.old.values ≡ rest ++ (v ∷ []) → MatchResult result (λ _. Went (M.Measure.dist measure.now) (meant C.Costing) draft.now allowance k v search.old search.new) (λ _. Overspent (M.Measure.dist measure.now) (meant C.Costing) draft.now allowance k v search.old) }
 {
     let Some(cost) = stack.top() else {
         return Ok(());

@@ -11,5 +11,5 @@ returns c =
     record {
       settles = λ b h.
           subst (λ n. Settling barlow total b c.args.allowance n c.settle.result c.args.sheet.now c.settle.new.sheet) long
-          (subst (λ ws. Settling (weighted_distance ws) total b c.args.allowance (length c.args.stack.now) c.settle.result c.args.sheet.now c.settle.new.sheet) c.barlow.ensures.held (c.settle.ensures.settles b h));
+          (subst (λ ws. Settling (weighted_distance ws) total b c.args.allowance (length c.args.stack.now) c.settle.result c.args.sheet.now c.settle.new.sheet) c.barlow-barlow.ensures.held (c.settle.ensures.settles b h));
     }

@@ -2,7 +2,7 @@ use Rattle.std.proofs.Common.{◌≡◌, ℕ, ◌+◌, ◌<◌, ◌≤◌, true,
 use Rattle.draft.specs.Book.{Book}
 use Rattle.draft.specs.Held.{Holds, book_of}
 use Rattle.draft.proofs.Holding.{held_book}
-use Rattle.costing.specs.Stacks.{stacked, room}
+use Rattle.costing.specs.Stacks.{room}
 use Rattle.std.proofs.lemmas.List.{same_from_push, length-take-le, length_push}
 use Rattle.costing.proofs.Stacked.{taken_put}
 use Rattle.std.proofs.lemmas.Result.{MatchResult-from_err}
@@ -46,7 +46,7 @@ candidates-init g t c =
       | in-Some-best+else-no_more w ↦ beaten_some dist cst d c.args.allowance k cost s w.in-Some-best.best w.in-Some-best.is n ∙ (sym w.no_more.ensures ∙ w.if-no_more.false)
       | in_default-best w ↦ beaten_none dist cst d c.args.allowance k cost s w.in_default-best.is n
     ] in
-    trying_start dist cst d c.args.allowance k cost c.in-Some-candidates.candidates.now (λ b h. sym (c.in-Some-candidates.ensures.by_book b h)) s (stacked c.args.stack.now) (room c.args.stack.now) unbeaten c.requires.3
+    trying_start dist cst d c.args.allowance k cost c.in-Some-candidates.candidates.now (λ b h. sym (c.in-Some-candidates.ensures.by_book b h)) s c.args.stack.now.values (room c.args.stack.now) unbeaten c.requires.3
 
 -- It stands behind the answers above, since a wrong body is told of at the first answer that fails.
 pub returns-then-no_more : goal.returns-then-no_more
@@ -73,7 +73,7 @@ returns-then-search-allowance g t c =
     let k = c.args.k in
     let s = c.args.search.now in
     let cost = c.in-Some.cost in
-    let over = spent_now dist cst d c.args.allowance k cost c.in-Some-candidates.candidates.now (λ b h. sym (c.in-Some-candidates.ensures.by_book b h)) s (stacked c.args.stack.now) (room c.args.stack.now) c.candidates.number c.candidates.search (stacked c.candidates.stack) (room c.candidates.stack) c.candidates.invariant c.index-candidates-number.result c.candidates-test.true c.index-candidates-number.is c.if-search-allowance.true in
+    let over = spent_now dist cst d c.args.allowance k cost c.in-Some-candidates.candidates.now (λ b h. sym (c.in-Some-candidates.ensures.by_book b h)) s c.args.stack.now.values (room c.args.stack.now) c.candidates.number c.candidates.search c.candidates.stack.values (room c.candidates.stack) c.candidates.invariant c.index-candidates-number.result c.candidates-test.true c.index-candidates-number.is c.if-search-allowance.true in
     record {
       stacked = tt;
       searched = λ rest v e. subst (λ u. Overspent dist cst d c.args.allowance k u s) (sym (same_from_push rest c.in-Some.ensures.0 v cost (sym e ∙ c.in-Some.ensures.1)).1) over;
@@ -113,7 +113,7 @@ candidates-preserved-then-apart-bound g t c =
     let within = c.candidates.invariant.within in
     let left = c.if-search-allowance.false in
     let far : c.in-Some-bound_of.bound < c.distance-apart.result = omega (arith, c.if-apart-bound.true) in
-    trying_broken dist cst d c.args.allowance k cost c.in-Some-candidates.candidates.now (λ b h. sym (c.in-Some-candidates.ensures.by_book b h)) s (stacked c.args.stack.now) (room c.args.stack.now) c.candidates.number c.candidates.search (stacked c.candidates.stack) (room c.candidates.stack) c.candidates.invariant r c.candidates-test.true c.index-candidates-number.is long _ refl refl refl refl refl (omega arith)
+    trying_broken dist cst d c.args.allowance k cost c.in-Some-candidates.candidates.now (λ b h. sym (c.in-Some-candidates.ensures.by_book b h)) s c.args.stack.now.values (room c.args.stack.now) c.candidates.number c.candidates.search c.candidates.stack.values (room c.candidates.stack) c.candidates.invariant r c.candidates-test.true c.index-candidates-number.is long _ refl refl refl refl refl (omega arith)
     (λ b h.
     let p = problem dist b in
     c.loop-earlier.invariant b h
@@ -183,12 +183,12 @@ descend-requires g t c κs =
     let small = facts.1 in
     let long : k ≤ length laid = search rules in
     let inv = c.candidates.invariant in
-    let same : stacked c.candidates.stack ≡ stacked c.args.stack.now = inv.stacked in
+    let same : c.candidates.stack.values ≡ c.args.stack.now.values = inv.stacked in
     let size : room c.candidates.stack ≡ room c.args.stack.now = inv.size in
-    let height : length (stacked c.candidates.stack) ≡ k + 1 = ap length same ∙ c.requires.0 in
+    let height : length c.candidates.stack.values ≡ k + 1 = ap length same ∙ c.requires.0 in
     let wide : 33 ≤ room c.candidates.stack = omega (arith, c.requires.1) in
-    let on = pushed c.push.result (room c.candidates.stack) c.loop-earlier.sum (stacked c.candidates.stack) (stacked c.push.new.self) c.push.ensures.put (omega arith) in
-    let higher : length (stacked c.push.new.self) ≡ k + 2 = ap length on ∙ (length_push (stacked c.candidates.stack) c.loop-earlier.sum ∙ omega arith) in
+    let on = pushed c.push.result (room c.candidates.stack) c.loop-earlier.sum c.candidates.stack.values c.push.new.self.values c.push.ensures.put (omega arith) in
+    let higher : length c.push.new.self.values ≡ k + 2 = ap length on ∙ (length_push c.candidates.stack.values c.loop-earlier.sum ∙ omega arith) in
     let wide₁ : 33 ≤ room c.push.new.self = omega (arith, c.push.ensures.size) in
     let below = facts.0 in
     let within = inv.within in
@@ -211,12 +211,12 @@ returns-in_err-descend g t c =
     let r = c.index-candidates-number.result in
     let kept = λ (b : Book) (h : Holds d b). c.loop-earlier.invariant b h ∙ row_end (problem dist b) cst k c.loop-earlier.earlier r (take k laid) c.loop-earlier.sum (subst (λ n. n ≤ c.loop-earlier.earlier) (sym (length-take-le k laid long)) c.loop-earlier-test.false) in
     let inv = c.candidates.invariant in
-    let same : stacked c.candidates.stack ≡ stacked c.args.stack.now = inv.stacked in
+    let same : c.candidates.stack.values ≡ c.args.stack.now.values = inv.stacked in
     let size : room c.candidates.stack ≡ room c.args.stack.now = inv.size in
-    let height : length (stacked c.candidates.stack) ≡ k + 1 = ap length same ∙ c.requires.0 in
+    let height : length c.candidates.stack.values ≡ k + 1 = ap length same ∙ c.requires.0 in
     let wide : 33 ≤ room c.candidates.stack = omega (arith, c.requires.1) in
-    let on = pushed c.push.result (room c.candidates.stack) c.loop-earlier.sum (stacked c.candidates.stack) (stacked c.push.new.self) c.push.ensures.put (omega arith) in
-    let over = spent_child dist cst d c.args.allowance k cost c.in-Some-candidates.candidates.now (λ b h. sym (c.in-Some-candidates.ensures.by_book b h)) s (stacked c.args.stack.now) (room c.args.stack.now) c.candidates.number c.candidates.search (stacked c.candidates.stack) (room c.candidates.stack) c.candidates.invariant r c.candidates-test.true c.index-candidates-number.is long c.loop-earlier.sum kept _ refl refl refl refl refl (search rules) (search rules) (c.in_err-descend.ensures.searched (stacked c.candidates.stack) c.loop-earlier.sum on) in
+    let on = pushed c.push.result (room c.candidates.stack) c.loop-earlier.sum c.candidates.stack.values c.push.new.self.values c.push.ensures.put (omega arith) in
+    let over = spent_child dist cst d c.args.allowance k cost c.in-Some-candidates.candidates.now (λ b h. sym (c.in-Some-candidates.ensures.by_book b h)) s c.args.stack.now.values (room c.args.stack.now) c.candidates.number c.candidates.search c.candidates.stack.values (room c.candidates.stack) c.candidates.invariant r c.candidates-test.true c.index-candidates-number.is long c.loop-earlier.sum kept _ refl refl refl refl refl (search rules) (search rules) (c.in_err-descend.ensures.searched c.candidates.stack.values c.loop-earlier.sum on) in
     record {
       stacked = MatchResult-from_err _ _ _ c.from_residual.ensures.0 (λ y. tt);
       searched = λ rest v e.
@@ -239,14 +239,14 @@ candidates-preserved g t c =
     let r = c.index-candidates-number.result in
     let kept = λ (b : Book) (h : Holds d b). c.loop-earlier.invariant b h ∙ row_end (problem dist b) cst k c.loop-earlier.earlier r (take k laid) c.loop-earlier.sum (subst (λ n. n ≤ c.loop-earlier.earlier) (sym (length-take-le k laid long)) c.loop-earlier-test.false) in
     let inv = c.candidates.invariant in
-    let same : stacked c.candidates.stack ≡ stacked c.args.stack.now = inv.stacked in
+    let same : c.candidates.stack.values ≡ c.args.stack.now.values = inv.stacked in
     let size : room c.candidates.stack ≡ room c.args.stack.now = inv.size in
-    let height : length (stacked c.candidates.stack) ≡ k + 1 = ap length same ∙ c.requires.0 in
+    let height : length c.candidates.stack.values ≡ k + 1 = ap length same ∙ c.requires.0 in
     let wide : 33 ≤ room c.candidates.stack = omega (arith, c.requires.1) in
-    let on = pushed c.push.result (room c.candidates.stack) c.loop-earlier.sum (stacked c.candidates.stack) (stacked c.push.new.self) c.push.ensures.put (omega arith) in
-    trying_on dist cst d c.args.allowance k cost c.in-Some-candidates.candidates.now (λ b h. sym (c.in-Some-candidates.ensures.by_book b h)) s (stacked c.args.stack.now) (room c.args.stack.now) c.candidates.number c.candidates.search (stacked c.candidates.stack) (room c.candidates.stack) c.candidates.invariant r c.candidates-test.true c.index-candidates-number.is long c.loop-earlier.sum kept _ refl refl refl refl refl (search rules) (search rules) _ _ _
-    (c.in_ok-descend.ensures.searched (stacked c.candidates.stack) c.loop-earlier.sum on)
-    (taken_put c.pop.result (stacked c.candidates.stack) _ _ c.loop-earlier.sum (c.in_ok-descend.ensures.stacked.0 ∙ on) c.pop.ensures.taken).1
+    let on = pushed c.push.result (room c.candidates.stack) c.loop-earlier.sum c.candidates.stack.values c.push.new.self.values c.push.ensures.put (omega arith) in
+    trying_on dist cst d c.args.allowance k cost c.in-Some-candidates.candidates.now (λ b h. sym (c.in-Some-candidates.ensures.by_book b h)) s c.args.stack.now.values (room c.args.stack.now) c.candidates.number c.candidates.search c.candidates.stack.values (room c.candidates.stack) c.candidates.invariant r c.candidates-test.true c.index-candidates-number.is long c.loop-earlier.sum kept _ refl refl refl refl refl (search rules) (search rules) _ _ _
+    (c.in_ok-descend.ensures.searched c.candidates.stack.values c.loop-earlier.sum on)
+    (taken_put c.pop.result c.candidates.stack.values _ _ c.loop-earlier.sum (c.in_ok-descend.ensures.stacked.0 ∙ on) c.pop.ensures.taken).1
     (c.pop.ensures.size ∙ (c.in_ok-descend.ensures.stacked.1 ∙ c.push.ensures.size))
 
 pub returns : goal.returns
@@ -258,7 +258,7 @@ returns g t c =
     let k = c.args.k in
     let s = c.args.search.now in
     let cost = c.in-Some.cost in
-    let went = trying_all dist cst d c.args.allowance k cost c.in-Some-candidates.candidates.now (λ b h. sym (c.in-Some-candidates.ensures.by_book b h)) s (stacked c.args.stack.now) (room c.args.stack.now) c.candidates.number c.candidates.search (stacked c.candidates.stack) (room c.candidates.stack) c.candidates.invariant c.candidates-test.false in
+    let went = trying_all dist cst d c.args.allowance k cost c.in-Some-candidates.candidates.now (λ b h. sym (c.in-Some-candidates.ensures.by_book b h)) s c.args.stack.now.values (room c.args.stack.now) c.candidates.number c.candidates.search c.candidates.stack.values (room c.candidates.stack) c.candidates.invariant c.candidates-test.false in
     record {
       stacked = (c.candidates.invariant.stacked, c.candidates.invariant.size);
       searched = λ rest v e. subst (λ u. Went dist cst d c.args.allowance k u s c.candidates.search) (sym (same_from_push rest c.in-Some.ensures.0 v cost (sym e ∙ c.in-Some.ensures.1)).1) went;

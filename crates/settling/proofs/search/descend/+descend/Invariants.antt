@@ -1,5 +1,5 @@
 use Rattle.std.proofs.Common.{◌≡◌, ◌-◌, take, drop}
-use Rattle.costing.specs.Stacks.{stacked, room}
+use Rattle.costing.specs.Stacks.{room}
 use Rattle.draft.specs.Book.{Book}
 use Rattle.draft.specs.Held.{Holds}
 use Rattle.settling.specs.Explore.{row}
@@ -13,7 +13,7 @@ decreases-descend g l = 33 - l.k
 abbrev pub invariant-candidates : goal.invariant-candidates
 invariant-candidates g l =
     let C = g.C.Costing in
-    Trying (g.M.Measure.dist l.measure) (meant C) l.draft l.allowance l.k l.cost l.candidates l.number l.initial.search l.search (stacked l.initial.stack) (stacked l.stack) (room l.initial.stack) (room l.stack)
+    Trying (g.M.Measure.dist l.measure) (meant C) l.draft l.allowance l.k l.cost l.candidates l.number l.initial.search l.search l.initial.stack.values l.stack.values (room l.initial.stack) (room l.stack)
 
 abbrev pub invariant-loop-earlier : goal.invariant-loop-earlier
 invariant-loop-earlier g l =
