@@ -1,9 +1,10 @@
 -- What is answered to a line, and to the lines of an input.
 use Rattle.std.specs.Prelude.{◌≡◌, ℕ, List, [], ◌∷◌, ◌++◌, Some, None, Ok, Err, Option, Result}
+use Rattle.refusal.specs.declared.Refusal.{Refusal}
 use Rattle.refusal.specs.Texts.{refusal_line}
 use Rattle.ratio.specs.declared.ratio.Ratio.{Ratio}
 use Rattle.interval.specs.declared.answer.Answer.{Answer}
-use Rattle.interval.specs.declared.answer.Answer.TheVariants.{Worth, Refused}
+use Rattle.interval.specs.declared.interval.Interval.{Interval}
 use Rattle.interval.specs.declared.fault.LineFault.{LineFault}
 use Rattle.lines.specs.Hearing.{Heard}
 use Rattle.lines.specs.Splitting.{ended, open_line}
@@ -12,10 +13,14 @@ use Rattle.interval.specs.Faults.{line_refusal}
 use Rattle.interval.specs.Naming.{Named}
 use Rattle.interval.specs.Texts.{interval_text}
 
+-- the text of what a ratio is worth, or of the refusal
+abbrev pub result_text : Result Interval Refusal → List ℕ
+result_text (Ok interval) = interval_text interval.0
+result_text (Err refusal) = refusal_line refusal
+
 -- the text of an answer
 abbrev pub answer_text : Answer → List ℕ
-answer_text (Worth interval) = interval_text interval.0
-answer_text (Refused refusal) = refusal_line refusal
+answer_text answer = result_text answer.0
 
 -- what is told where a line names a ratio, or has a fault: what the ratio is worth, or the refusal
 abbrev pub told : Result Ratio LineFault → List ℕ

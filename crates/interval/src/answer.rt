@@ -3,6 +3,7 @@
 ghost use Rattle.interval.specs.Answers.{answer_text, Answered};
 ghost use Rattle.std.specs.Prelude.{Some};
 
+use crate::fault::LineFault;
 use crate::interval::Interval;
 use crate::name::named;
 use refusal::Refusal;
@@ -10,20 +11,14 @@ use std::fmt;
 
 /// The answer to a line, written without its byte 10: what the ratio that it names is worth, or the refusal.
 #[derive(Clone, Copy)]
-pub enum Answer {
-    Worth(Interval),
-    Refused(Refusal),
-}
+pub struct Answer(pub Result<Interval, Refusal>);
 
 impl Answer {
     /// The answer to this line; every line has one.
     pub fn to(line: &[u8]) -> Answer
         ensures answered { Answered line.now (answer_text result) }
     {
-        match named(line) {
-            Ok(ratio) => Answer::Worth(Interval(ratio)),
-            Err(fault) => Answer::Refused(fault.refusal()),
-        }
+        Answer(named(line).map(Interval).map_err(LineFault::refusal))
     }
 }
 
@@ -31,9 +26,9 @@ impl fmt::Display for Answer {
     ghost output = { λ answer. Some (answer_text answer) };
 
     fn fmt<W: fmt::Write>(&self, f: &mut fmt::Formatter<W>) -> fmt::Result {
-        match *self {
-            Answer::Worth(interval) => write!(f, "{interval}"),
-            Answer::Refused(refusal) => write!(f, "{refusal}"),
+        match self.0 {
+            Ok(interval) => write!(f, "{interval}"),
+            Err(refusal) => write!(f, "{refusal}"),
         }
     }
 }

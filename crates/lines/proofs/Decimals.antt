@@ -1,30 +1,61 @@
 -- The digits of a number with decimals.
-use Rattle.std.proofs.Common.{◌≡◌, ℕ, zero, suc, ◌+◌, ◌*◌, ◌/◌, ◌%◌, ◌^◌, ◌<◌, List, [], ◌∷◌, ◌++◌, length, codes, decimal, sym, refl, ap, ◌∙◌, pow-suc, div-le_self, arith}
-use native.Mathlib.Nat.{div-div-eq-div-mul}
-use Rattle.std.proofs.lemmas.Fmt.{decimal_digit, decimal_is_IsNumeral}
+use Rattle.std.proofs.Common.{◌≡◌, ℕ, zero, suc, ◌+◌, ◌-◌, ◌*◌, ◌/◌, ◌%◌, ◌^◌, ◌<◌, ◌≤◌, List, [], ◌∷◌, ◌++◌, length, replicate, codes, decimal, sym, refl, ap, ◌∙◌, ⊎_elim, append_assoc, append-nil, length-append, pow-suc, div-le_self, arith}
+use Rattle.std.proofs.lemmas.Bool.{cases_lt}
+use Rattle.std.proofs.lemmas.List.{replicate_more}
+use Rattle.std.proofs.Math.Arith.{mod-mul}
+use Rattle.std.specs.Fmt.{styled_decimal, format_spec, padded_integral, char_count}
+use Rattle.std.proofs.Math.Nat.{div-div-eq-div-mul, one-le-pow, pow-succ'}
+use Rattle.std.proofs.lemmas.Fmt.{decimal_digit, decimal_step, decimal_is_IsNumeral}
 use Rattle.std.specs.Str.Parse.{AllDigits, digits_value, digits_value_after}
 use Rattle.std.specs.Char.{digit_value}
 use Rattle.lines.specs.Decimals.{last_digits, with_decimals}
 
--- the last digit is written
-pub last_digit : (n : ℕ) → decimal (n % 10) ≡ last_digits 1 n
-last_digit n = decimal_digit (n % 10) (omega arith) ∙ ap (λ d. (48 + d) ∷ []) (omega arith)
+-- a number in at least k places, with zeros before it
+abbrev pub in_places : ℕ → ℕ → List ℕ
+in_places k n = replicate (k - length (decimal n)) 48 ++ decimal n
 
--- the last two digits are written
-pub two_digits : (n : ℕ) → decimal (n / 10 % 10) ++ decimal (n % 10) ≡ last_digits 2 n
-two_digits n = rw (decimal_digit (n / 10 % 10) (omega arith), last_digit n)
+-- the digits but the last are those of the number without its last digit
+last_digits_end : (k n : ℕ) → last_digits (suc k) n ≡ last_digits k (n / 10) ++ ((48 + n % 10) ∷ [])
+last_digits_end zero n = ap (λ m. (48 + m % 10) ∷ []) (omega arith)
+last_digits_end (suc k) n =
+    let rest : n / 10 ^ suc k ≡ n / 10 / 10 ^ k = ap (λ p. n / p) (pow-succ' 10 k) ∙ sym (div-div-eq-div-mul n 10 (10 ^ k)) in
+    rw (rest, last_digits_end k n)
 
--- the last three digits are written
-pub three_digits : (n : ℕ) → decimal (n / 100 % 10) ++ (decimal (n / 10 % 10) ++ decimal (n % 10)) ≡ last_digits 3 n
-three_digits n = rw (two_digits n, decimal_digit (n / 100 % 10) (omega arith))
+-- and so of a number in places, where the first of them is not the last
+in_places_end : (k n : ℕ) → n < 2 ^ 64 → in_places (suc (suc k)) n ≡ in_places (suc k) (n / 10) ++ ((48 + n % 10) ∷ [])
+in_places_end k n small =
+    ⊎_elim
+    (λ (one : n < 10).
+    let front : n / 10 ≡ 0 = omega arith in
+    let last : n % 10 ≡ n = omega arith in
+    let zeros : suc (suc k) - 1 ≡ k + 1 = omega arith in
+    let fewer : suc k - 1 ≡ k = omega arith in
+    rw (decimal_digit n one, front, last, decimal_digit 0 (omega arith), zeros, fewer, replicate_more {X = ℕ} k 48))
+    (λ (more : 10 ≤ n).
+    let shorter : suc (suc k) - length (decimal (n / 10) ++ ((48 + n % 10) ∷ [])) ≡ suc k - length (decimal (n / 10)) = omega (arith, length-append (decimal (n / 10)) ((48 + n % 10) ∷ [])) in
+    rw (decimal_step n more small, shorter) (sym (append_assoc _ (decimal (n / 10)) _)))
+    (cases_lt n 10)
 
--- wholes, period and two digits
-pub two_decimals : (n : ℕ) → decimal (n / 100) ++ (codes "." ++ (decimal (n / 10 % 10) ++ decimal (n % 10))) ≡ with_decimals 2 n
-two_decimals n = ap (λ ds. decimal (n / 100) ++ (codes "." ++ ds)) (two_digits n)
+-- a remainder in its places is the last digits
+places_are_digits : (k n : ℕ) → n < 2 ^ 64 → in_places (suc k) (n % 10 ^ suc k) ≡ last_digits (suc k) n
+places_are_digits zero n small = rw (decimal_digit (n % 10) (omega arith)) (ap (λ d. (48 + d) ∷ []) (omega arith))
+places_are_digits (suc k) n small =
+    let parts : n % 10 ^ suc (suc k) ≡ (n / 10 % 10 ^ suc k) * 10 + n % 10 = ap (λ p. n % p) (pow-suc 10 (suc k)) ∙ mod-mul n {c = 10} (one-le-pow (suc k) 10 (omega arith)) (omega arith) in
+    let front : n % 10 ^ suc (suc k) / 10 ≡ n / 10 % 10 ^ suc k = omega arith in
+    let last : n % 10 ^ suc (suc k) % 10 ≡ n % 10 = omega arith in
+    in_places_end k (n % 10 ^ suc (suc k)) (omega arith) ∙ rw (front, last, places_are_digits k (n / 10) (omega arith)) (sym (last_digits_end (suc k) n))
 
--- wholes, period and three digits
-pub three_decimals : (n : ℕ) → decimal (n / 1000) ++ (codes "." ++ (decimal (n / 100 % 10) ++ (decimal (n / 10 % 10) ++ decimal (n % 10)))) ≡ with_decimals 3 n
-three_decimals n = ap (λ ds. decimal (n / 1000) ++ (codes "." ++ ds)) (three_digits n)
+-- what `{:0width$}` writes of a number
+zeros_before : (k n : ℕ) → styled_decimal (format_spec 32 0 4 (suc k) (2 ^ 64 - 1)) n ≡ in_places (suc k) n
+unfolding padded_integral char_count
+zeros_before k n =
+    let zeros : suc k - length (decimal n) - 0 - 0 ≡ suc k - length (decimal n) = omega arith in
+    rw (zeros, append-nil) (grind arith)
+
+-- wholes, period and decimals are written
+pub decimals_written : (k n : ℕ) → 0 < k → n < 2 ^ 64 → decimal (n / 10 ^ k) ++ (codes "." ++ styled_decimal (format_spec 32 0 4 k (2 ^ 64 - 1)) (n % 10 ^ k)) ≡ with_decimals k n
+decimals_written zero n some small = absurd (omega arith)
+decimals_written (suc k) n some small = ap (λ digits. decimal (n / 10 ^ suc k) ++ (codes "." ++ digits)) (zeros_before k (n % 10 ^ suc k) ∙ places_are_digits k n small)
 
 -- digits that are read after others
 pub read_after : (n : ℕ) (ds es : List ℕ) → digits_value_after 10 n (ds ++ es) ≡ digits_value_after 10 (digits_value_after 10 n ds) es

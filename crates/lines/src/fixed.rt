@@ -1,7 +1,7 @@
 //! Numbers that are written with a fixed count of decimals.
 
 ghost use Rattle.lines.specs.Decimals.{with_decimals, signed_decimals};
-ghost use Rattle.std.specs.Prelude.{Some};
+ghost use Rattle.std.specs.Prelude.{◌<◌, ◌≤◌, Some};
 
 use std::fmt;
 
@@ -9,30 +9,30 @@ use std::fmt;
 #[derive(Clone, Copy, Debug, PartialEq, Eq)]
 pub struct Hundredths(pub u32);
 
+/// A count of parts of which 10 to the power `PLACES` are a whole, written with that many decimals.
+#[derive(Clone, Copy)]
+struct Decimals<const PLACES: u32> {
+    parts: u32,
+    ghost some: { 0 < PLACES },
+    ghost few: { PLACES ≤ 9 },
+}
+
+impl<const PLACES: u32> fmt::Display for Decimals<PLACES> {
+    ghost output = { λ amount. Some (with_decimals PLACES amount.parts) };
+
+    fn fmt<W: fmt::Write>(&self, f: &mut fmt::Formatter<W>) -> fmt::Result {
+        let whole = 10_u32.pow(PLACES);
+        let width = PLACES as usize;
+        write!(f, "{}.{:0width$}", self.parts / whole, self.parts % whole)
+    }
+}
+
 impl fmt::Display for Hundredths {
     ghost output = { λ amount. Some (with_decimals 2 amount.0) };
 
     fn fmt<W: fmt::Write>(&self, f: &mut fmt::Formatter<W>) -> fmt::Result {
-        let whole = self.0 / 100;
-        let tenth = self.0 / 10 % 10;
-        let hundredth = self.0 % 10;
-        write!(f, "{whole}.{tenth}{hundredth}")
-    }
-}
-
-/// The magnitude of a count of thousandths.
-#[derive(Clone, Copy)]
-struct Magnitude(u32);
-
-impl fmt::Display for Magnitude {
-    ghost output = { λ amount. Some (with_decimals 3 amount.0) };
-
-    fn fmt<W: fmt::Write>(&self, f: &mut fmt::Formatter<W>) -> fmt::Result {
-        let whole = self.0 / 1000;
-        let tenth = self.0 / 100 % 10;
-        let hundredth = self.0 / 10 % 10;
-        let thousandth = self.0 % 10;
-        write!(f, "{whole}.{tenth}{hundredth}{thousandth}")
+        let amount = Decimals::<2> { parts: self.0 };
+        write!(f, "{amount}")
     }
 }
 
@@ -44,12 +44,11 @@ impl fmt::Display for Thousandths {
     ghost output = { λ amount. Some (signed_decimals 3 amount.0) };
 
     fn fmt<W: fmt::Write>(&self, f: &mut fmt::Formatter<W>) -> fmt::Result {
-        let magnitude = Magnitude(self.0.unsigned_abs());
-        if self.0 < 0 {
-            write!(f, "-{magnitude}")
-        } else {
-            write!(f, "{magnitude}")
-        }
+        let sign = if self.0 < 0 { "-" } else { "" };
+        let magnitude = Decimals::<3> {
+            parts: self.0.unsigned_abs(),
+        };
+        write!(f, "{sign}{magnitude}")
     }
 }
 

@@ -1,9 +1,11 @@
 //! How a line is read byte by byte.
 
 ghost use Rattle.std.specs.Prelude.{◌≡◌, ℕ, List, [], ◌∷◌, ◌++◌, Decides};
-ghost use Rattle.lines.specs.Hearing.{held, Heard};
+ghost use Rattle.lines.specs.Hearing.{held, Heard, OneMore};
+ghost use Rattle.lines.specs.Splitting.{ended, open_line, all_lines};
 
 use super::{LONGEST_LINE, Line};
+use crate::split::ends_line;
 
 impl Line {
     /// A line of which nothing is read yet.
@@ -46,5 +48,26 @@ impl Line {
         ensures nothing_heard { (past : List ℕ) → Heard self.now past → Decides result (past ≡ []) }
     {
         self.len == 0
+    }
+    /// Hears one byte more of an input: the line that it ends, if it ends one. A new line then begins.
+    pub fn hear(&mut self, byte: u8) -> Option<Line>
+        ensures heard { (past : List ℕ) → Heard self.old (open_line past) → Heard self.new (open_line (past ++ (byte ∷ []))) }
+        ensures tells { (past : List ℕ) → Heard self.old (open_line past) → OneMore result (open_line past) (ended past) (ended (past ++ (byte ∷ []))) }
+    {
+        if ends_line(byte) {
+            let line = *self;
+            self.clear();
+            Some(line)
+        } else {
+            self.push(byte);
+            None
+        }
+    }
+
+    /// The last line of the input, if it is not empty: no byte 10 has ended it.
+    pub fn finish(&self) -> Option<Line>
+        ensures tells { (past : List ℕ) → Heard self.now (open_line past) → OneMore result (open_line past) (ended past) (all_lines past) }
+    {
+        (!self.is_empty()).then_some(*self)
     }
 }
