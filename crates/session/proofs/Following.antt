@@ -1,6 +1,7 @@
 -- One line more of a session. Assumes nothing.
-use Rattle.std.proofs.Common.{◌≡◌, ℕ, ◌≤◌, true, false, List, [], ◌∷◌, ◌++◌, length, get_or, take, drop, replicate, is_err, IfOk, Some, None, Ok, Err, codes, Option, Result, sym, refl, ap, ◌∙◌, subst, arith}
+use Rattle.std.proofs.Common.{◌≡◌, ℕ, ◌≤◌, unwrap_or, true, false, List, [], ◌∷◌, ◌++◌, length, get_or, take, drop, replicate, is_err, IfOk, Some, None, Ok, Err, codes, Option, Result, sym, refl, ap, ◌∙◌, subst, arith}
 use Rattle.std.proofs.lemmas.Bool.{false≢true}
+use Rattle.std.proofs.lemmas.Option.{unwrap_or-slice_get}
 use Rattle.draft.proofs.Holding.{held_book}
 use Rattle.draft.specs.Book.{Book, new_book}
 use Rattle.draft.specs.Held.{Holds, book_of}
@@ -12,11 +13,12 @@ use Rattle.settling.specs.declared.step.Answer.TheVariants.{Entered as EnteredAn
 use Rattle.settling.specs.declared.step.Step.{Step}
 use Rattle.settling.specs.declared.step.Step.TheVariants.{Enter, Settle}
 use Rattle.command.specs.Reading.{Read, step_read, Placed}
+use Rattle.command.specs.Words.{word_columns}
 use Rattle.command.specs.declared.command.Command.{Command}
 use Rattle.command.specs.declared.fault.TextFault.{TextFault}
 use Rattle.session.proofs.Pages.{taken, left, put_over}
 use Rattle.session.specs.Answers.{barlow, replied, refusal_text, reply_text, scale_text, LineDone}
-use Rattle.session.specs.Faults.{session_refusal}
+use Rattle.session.specs.Faults.{session_refusal, fault_word}
 use Rattle.session.specs.Following.{AllDone, HeardOne}
 use Rattle.session.specs.Obeying.{Obeyed, ToldAt}
 use Rattle.session.specs.Pages.{overwritten, Put, Written, Fresh}
@@ -127,10 +129,10 @@ same_fault : {A B : Type 0} (x y : B) → ◌≡◌ {A = Result A B} (Err x) (Er
 same_fault x y e = cc
 
 -- the text of a refusal
-pub refused_spoken : (line : List ℕ) (read : Result Command TextFault) (before after : Session) (b : Book) (fault : SessionFault) (tones column : ℕ) → Obeyed read before after (Err fault)
+pub refused_spoken : (line : List ℕ) (read : Result Command TextFault) (before after : Session) (b : Book) (fault : SessionFault) (tones : ℕ) (column : Option ℕ) → Obeyed read before after (Err fault)
     → ToldAt read fault tones column → tones ≡ length b.tones → IfOk read (λ c. Placed line c.columns)
-    → Spoken line read b after.sheet (Err fault) (refusal_text (session_refusal fault column))
+    → Spoken line read b after.sheet (Err fault) (refusal_text (session_refusal fault (unwrap_or column 0)))
 refused_spoken line (Ok command) before after b fault tones column did told count placed =
-    ap (λ k. refusal_text (session_refusal fault k)) (told b line count placed)
+    ap (λ k. refusal_text (session_refusal fault k)) (ap (λ o. unwrap_or o 0) (told b line count placed) ∙ unwrap_or-slice_get (word_columns line) (fault_word b command.step fault) 0)
 refused_spoken line (Err f) before after b fault tones column did told count placed =
-    ap (λ x. refusal_text (session_refusal x column)) (same_fault fault (Text f) did.0)
+    ap (λ x. refusal_text (session_refusal x (unwrap_or column 0))) (same_fault fault (Text f) did.0)

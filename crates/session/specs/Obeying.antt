@@ -10,7 +10,7 @@ use Rattle.settling.specs.declared.settle.Settled.{Settled}
 use Rattle.settling.specs.declared.step.Answer.{Answer}
 use Rattle.settling.specs.declared.step.Step.{Step}
 use Rattle.command.specs.Reading.{Placed}
-use Rattle.command.specs.Words.{word_column}
+use Rattle.command.specs.Words.{column_at}
 use Rattle.command.specs.declared.command.Columns.{Columns}
 use Rattle.command.specs.declared.command.Command.{Command}
 use Rattle.command.specs.declared.fault.TextFault.{TextFault}
@@ -32,10 +32,10 @@ Obeyed (Err fault) before after r = (r ≡ Err (Text fault)) × (after ≡ befor
 
 -- the column is that of the word that a fault of the draft is told of, for any book of so many tones and any line with these
 -- columns
-abbrev pub ColumnOf : Columns → Call → DraftFault → ℕ → ℕ → Type 0
-ColumnOf columns call fault tones column = (b : Book) (line : List ℕ) → tones ≡ length b.tones → Placed line columns → column ≡ word_column line (draft_word b call fault)
+abbrev pub ColumnOf : Columns → Call → DraftFault → ℕ → Option ℕ → Type 0
+ColumnOf columns call fault tones column = (b : Book) (line : List ℕ) → tones ≡ length b.tones → Placed line columns → column ≡ column_at line (draft_word b call fault)
 
 -- the same of a fault of what was read
-abbrev pub ToldAt : Result Command TextFault → SessionFault → ℕ → ℕ → Type 0
+abbrev pub ToldAt : Result Command TextFault → SessionFault → ℕ → Option ℕ → Type 0
 ToldAt (Err f) fault tones column = Unit {0}
-ToldAt (Ok command) fault tones column = (b : Book) (line : List ℕ) → tones ≡ length b.tones → Placed line command.columns → column ≡ word_column line (fault_word b command.step fault)
+ToldAt (Ok command) fault tones column = (b : Book) (line : List ℕ) → tones ≡ length b.tones → Placed line command.columns → column ≡ column_at line (fault_word b command.step fault)

@@ -1,6 +1,6 @@
 //! How a session follows its lines.
 
-ghost use Rattle.std.specs.Prelude.{[]};
+ghost use Rattle.std.specs.Prelude.{◌≡◌, []};
 ghost use Rattle.draft.specs.Book.{Book};
 ghost use Rattle.draft.specs.Held.{Holds};
 ghost use Rattle.session.specs.Answers.{barlow};
@@ -20,7 +20,7 @@ use draft::draft::Draft;
 use measure::weighted::WeightedPrimes;
 use refusal::Refusal;
 use settling::fault::SearchFault;
-use settling::settle::{Settled, Sheet};
+use settling::settle::Settled;
 use settling::step::Step;
 use settling::yardstick::Yardstick;
 
@@ -52,7 +52,7 @@ impl Session {
             Ok(None) => page.text(b"ok\n"),
             Ok(Some(settled)) => page.scale(&self.draft, &self.sheet, settled),
             Err(fault) => {
-                let column = told_at(read, fault, tones);
+                let column = told_at(read, fault, tones).unwrap_or(0);
                 page.refusal(fault.refusal(column));
             }
         }
@@ -71,32 +71,20 @@ impl Session {
                 self.draft.put(call)?;
                 Ok(None)
             }
-            Step::Settle { allowance } => {
-                let settled = settle_by_barlow(
-                    &self.draft,
-                    allowance,
-                    &mut self.sheet,
-                    &mut self.stack,
-                )?;
-                Ok(Some(settled))
-            }
+            Step::Settle { allowance } => Ok(Some(self.settle(allowance)?)),
         }
     }
-}
 
-/// Settles the draft by Barlow's measure and the total of the distances.
-fn settle_by_barlow(
-    draft: &Draft,
-    allowance: u64,
-    sheet: &mut Sheet,
-    stack: &mut [u64; 33],
-) -> Result<Settled<u64>, SearchFault>
-    ensures settles { (b : Book) → Holds draft.now b → Settling barlow total b allowance 33 result sheet.old sheet.new }
-{
-    let barlow = WeightedPrimes::barlow();
-    let yardstick = Yardstick {
-        measure: &barlow,
-        costing: &Total,
-    };
-    yardstick.settle(draft, allowance, sheet, stack)
+    /// Settles the draft by Barlow's measure and the total of the distances.
+    fn settle(&mut self, allowance: u64) -> Result<Settled<u64>, SearchFault>
+        ensures settles { (b : Book) → Holds self.old.draft b → Settling barlow total b allowance 33 result self.old.sheet self.new.sheet }
+        ensures draft { self.new.draft ≡ self.old.draft }
+    {
+        let barlow = WeightedPrimes::barlow();
+        let yardstick = Yardstick {
+            measure: &barlow,
+            costing: &Total,
+        };
+        yardstick.settle(&self.draft, allowance, &mut self.sheet, &mut self.stack)
+    }
 }

@@ -3,6 +3,7 @@ use Rattle.draft.proofs.Holding.{held_book}
 use Rattle.draft.specs.Held.{book_of}
 use Rattle.refusal.specs.Texts.{refusal_line}
 use Rattle.session.specs.Answers.{refusal_text, scale_text}
+use Rattle.session.specs.Faults.{session_refusal}
 use Rattle.session.specs.Obeying.{Obeyed}
 use Rattle.session.specs.Pages.{Written}
 use Rattle.session.proofs.Pages.{as_text, refusal_short}
@@ -50,9 +51,9 @@ returns c =
               long,
               heard_one {q = w.refusal-in-Err-2.new.self} read (Err fault) c.read-read.ensures.read did long c.over-page.ensures.fresh (search rules) (search rules)
                   (λ b h.
-                  let spoken = refused_spoken line read before after b fault c.tones-tones.result w.told_at-column.result did w.told_at-column.ensures.told (c.tones-tones.ensures.by_book b h) c.read-read.ensures.placed in
+                  let spoken = refused_spoken line read before after b fault c.tones-tones.result w.told_at.result did w.told_at.ensures.told (c.tones-tones.ensures.by_book b h) c.read-read.ensures.placed in
                   let short : length (refusal_text r) ≤ 1280 = omega (arith, refusal_short r (search rules) (search rules), length-append (refusal_line r) (10 ∷ [])) in
-                  let is = w.refusal-in-Err.ensures in
+                  let is = w.refusal-in-Err.ensures ∙ ap (session_refusal fault) w.unwrap_or-column.ensures in
                   (_, (subst (λ x. length (refusal_text x) ≤ 1280) is short, (as_text (ap refusal_text is) w.refusal-in-Err-2.ensures.written, spoken)))),
             );
           }
