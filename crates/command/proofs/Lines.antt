@@ -10,7 +10,7 @@ use Rattle.command.specs.declared.command.Verb.TheVariants.{Tone, Try, Strike, B
 use Rattle.command.specs.declared.word.Behind.{Behind}
 use Rattle.command.specs.declared.word.Behind.TheVariants.{Nothing, One, Two, Three, More}
 use Rattle.command.specs.declared.word.Word.{Word}
-use Rattle.command.proofs.Telling.{bytes, words_are, word_is, column_is, miscounted}
+use Rattle.command.proofs.Telling.{bytes, words_are, word_is, column_at_is, miscounted}
 
 -- the name is the first word
 pub name_word : (line : List ℕ) (name : Word) (b : Behind) → HoldsBehind line name b → word line 0 ≡ name.bytes.now
@@ -85,12 +85,12 @@ wrong_number line v name b (inr e) h = too_many line v name (subst (HoldsBehind 
 pub columns_placed : (line : List ℕ) (v : Verb) (name : Word) (b : Behind) → HoldsBehind line name b → WellSpaced line v → Placed line (columns_of b)
 columns_placed line v name Nothing h s = absurd (none_behind line v name h s)
 columns_placed line v name (One a) h s =
-    let is = column_is line (view name ∷ views (a ∷ [])) h in
+    let is = column_at_is line (view name ∷ views (a ∷ [])) h in
     record { first = sym (is 1); second = sym (is 2); third = sym (is 3) }
 columns_placed line v name (Two a b) h s =
-    let is = column_is line (view name ∷ views (a ∷ (b ∷ []))) h in
+    let is = column_at_is line (view name ∷ views (a ∷ (b ∷ []))) h in
     record { first = sym (is 1); second = sym (is 2); third = sym (is 3) }
 columns_placed line v name (Three a b c) h s =
-    let is = column_is line (view name ∷ views (a ∷ (b ∷ (c ∷ [])))) h in
+    let is = column_at_is line (view name ∷ views (a ∷ (b ∷ (c ∷ [])))) h in
     record { first = sym (is 1); second = sym (is 2); third = sym (is 3) }
 columns_placed line v name More h s = absurd (too_many line v name h s)

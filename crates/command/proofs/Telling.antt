@@ -1,13 +1,13 @@
 -- What the words of a line tell is what the line is read as.
 use Rattle.std.proofs.Common.{◌≡◌, ℕ, zero, suc, ◌+◌, ◌<◌, ◌≤◌, List, [], ◌∷◌, map, length, get_or, IsErrAnd, Ok, Err, Result, sym, refl, ap, ◌∙◌, subst, arith}
 use lib.ListN.{length-map}
-use Rattle.std.specs.List.{AllByRecursion}
+use Rattle.std.specs.List.{AllByRecursion, slice_get}
 use Rattle.std.proofs.lemmas.Result.{err_from_is_err_and}
 use Rattle.settling.specs.declared.step.Step.{Step}
 use Rattle.command.specs.Cutting.{view, Full}
 use Rattle.command.specs.Reading.{verb_word, arguments, HasForm, verb_of, WellSpaced, Says}
 use Rattle.command.specs.Telling.{views, Given, Tell}
-use Rattle.command.specs.Words.{words, placed, word, word_column}
+use Rattle.command.specs.Words.{words, placed, word, word_column, column_at}
 use Rattle.command.specs.declared.command.Verb.{Verb}
 use Rattle.command.specs.declared.command.Verb.TheVariants.{Tone, Try, Strike, Bound, Level, Settle}
 use Rattle.command.specs.declared.fault.TextFault.{TextFault}
@@ -31,6 +31,10 @@ word_is line vs e k = ap (λ ws. get_or ws k []) (words_are line vs e)
 
 pub column_is : (line : List ℕ) (vs : List (List ℕ × ℕ)) → placed 1 (words line) ≡ vs → (k : ℕ) → word_column line k ≡ get_or (map (λ v. v.1) vs) k 0
 column_is line vs e k = ap (λ us. get_or (map (λ v. v.1) us) k 0) e
+
+-- the same of a word that there may not be
+pub column_at_is : (line : List ℕ) (vs : List (List ℕ × ℕ)) → placed 1 (words line) ≡ vs → (k : ℕ) → column_at line k ≡ slice_get (map (λ v. v.1) vs) k
+column_at_is line vs e k = ap (λ us. slice_get (map (λ v. v.1) us) k) e
 
 -- ---- the spaces
 

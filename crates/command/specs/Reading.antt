@@ -6,7 +6,7 @@ use Rattle.ratio.specs.Words.{Numeral, PartsRead}
 use Rattle.settling.specs.declared.step.Step.{Step}
 use Rattle.settling.specs.declared.step.Step.TheVariants.{Enter, Settle as SettleStep}
 use Rattle.command.specs.Forms.{NumberRead, CentsRead}
-use Rattle.command.specs.Words.{words, word, word_column}
+use Rattle.command.specs.Words.{words, word, word_column, column_at}
 use Rattle.command.specs.declared.command.Verb.{Verb}
 use Rattle.command.specs.declared.command.Verb.TheVariants.{Tone, Try, Strike, Bound, Level, Settle}
 use Rattle.command.specs.declared.command.Columns.{Columns}
@@ -84,11 +84,11 @@ Read line (Err WrongWords) = (v : Verb) × (Begins line v × (WellSpaced line v 
 Read line (Err (NoForm column)) = (v : Verb) × (Begins line v × WellSpaced line v × ((k : ℕ) × (LeftmostAmiss line v k × (column ≡ word_column line k))))
 Read line (Ok step) = Begins line (verb_of step) × WellSpaced line (verb_of step) × Says line step
 
--- the columns are those of the first three words behind the name, in this line
+-- the columns are those of the first three words behind the name, in this line, each if there is such a word
 pub record Placed (line : List ℕ) (columns : Columns) : Type 0 where
-  pub first : columns.first ≡ word_column line 1
-  pub second : columns.second ≡ word_column line 2
-  pub third : columns.third ≡ word_column line 3
+  pub first : columns.first ≡ column_at line 1
+  pub second : columns.second ≡ column_at line 2
+  pub third : columns.third ≡ column_at line 3
 
 -- the step of a command that was read, or the fault
 abbrev pub step_read : Result Command TextFault → Result Step TextFault

@@ -43,8 +43,8 @@ TellBehind v b r = (line : List ℕ) (name : Word) → Begins line v → HoldsBe
 
 -- the columns of the words behind the name, where they are told
 abbrev pub columns_of : Behind → Columns
-columns_of Nothing = record { first = 0; second = 0; third = 0 }
-columns_of (One a) = record { first = a.column; second = 0; third = 0 }
-columns_of (Two a b) = record { first = a.column; second = b.column; third = 0 }
-columns_of (Three a b c) = record { first = a.column; second = b.column; third = c.column }
-columns_of More = record { first = 0; second = 0; third = 0 }
+columns_of Nothing = record { first = None; second = None; third = None }
+columns_of (One a) = record { first = Some a.column; second = None; third = None }
+columns_of (Two a b) = record { first = Some a.column; second = Some b.column; third = None }
+columns_of (Three a b c) = record { first = Some a.column; second = Some b.column; third = Some c.column }
+columns_of More = record { first = None; second = None; third = None }

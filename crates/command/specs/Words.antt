@@ -1,5 +1,5 @@
 -- The words of a line, cut at each space, which is byte 32.
-use Rattle.std.specs.Prelude.{◌≡◌, ℕ, ◌+◌, cond, List, [], ◌∷◌, ◌++◌, map, length, ◌==◌, ◌≢◌, slice_index, slice_index_or}
+use Rattle.std.specs.Prelude.{◌≡◌, ℕ, ◌+◌, cond, List, [], ◌∷◌, ◌++◌, map, length, ◌==◌, Option, ◌≢◌, slice_get, slice_index, slice_index_or}
 use Rattle.std.specs.List.{AllByRecursion}
 
 -- the words, the first of which has this byte in front
@@ -33,6 +33,14 @@ placed column (w ∷ ws) = (w, column) ∷ placed (column + length w + 1) ws
 abbrev pub word : List ℕ → ℕ → List ℕ
 word line k = slice_index_or (words line) k []
 
--- the column of word k; columns count bytes from 1
+-- the columns of the words of a line; columns count bytes from 1
+abbrev pub word_columns : List ℕ → List ℕ
+word_columns line = map (λ w. w.1) (placed 1 (words line))
+
+-- the column of word k
 abbrev pub word_column : List ℕ → ℕ → ℕ
-word_column line k = slice_index (map (λ w. w.1) (placed 1 (words line))) k
+word_column line k = slice_index (word_columns line) k
+
+-- the column of word k, if there is such a word
+abbrev pub column_at : List ℕ → ℕ → Option ℕ
+column_at line k = slice_get (word_columns line) k

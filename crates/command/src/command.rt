@@ -22,12 +22,12 @@ pub enum Verb {
     Settle,
 }
 
-/// The columns of the first, second and third word behind the name of a command; 0 where there is none.
+/// The columns of the first, second and third word behind the name of a command, each if there is such a word.
 #[derive(Clone, Copy, Debug, PartialEq, Eq)]
 pub struct Columns {
-    pub first: usize,
-    pub second: usize,
-    pub third: usize,
+    pub first: Option<usize>,
+    pub second: Option<usize>,
+    pub third: Option<usize>,
 }
 
 /// A command as a line says it: the step to take, and where its words stand.
@@ -144,10 +144,10 @@ impl Columns {
         ensures { result ≡ columns_of behind.entry }
     {
         let (first, second, third) = match behind {
-            Behind::Nothing | Behind::More => (0, 0, 0),
-            Behind::One(a) => (a.column, 0, 0),
-            Behind::Two(a, b) => (a.column, b.column, 0),
-            Behind::Three(a, b, c) => (a.column, b.column, c.column),
+            Behind::Nothing | Behind::More => (None, None, None),
+            Behind::One(a) => (Some(a.column), None, None),
+            Behind::Two(a, b) => (Some(a.column), Some(b.column), None),
+            Behind::Three(a, b, c) => (Some(a.column), Some(b.column), Some(c.column)),
         };
         Columns {
             first,

@@ -6,17 +6,17 @@ use Rattle.settling.specs.Promise.{AnsweredBy, Settling, ill_put}
 use Rattle.settling.specs.Run.{Stepped}
 use Rattle.settling.specs.declared.fault.SearchFault.{SearchFault}
 use Rattle.settling.specs.declared.fault.SearchFault.TheVariants.{OutOfLimits, ShortStack, NoTone, Spent, NoScale}
+use Rattle.settling.specs.declared.settle.Settled.{Settled}
 use Rattle.settling.specs.declared.step.Answer.{Answer}
 use Rattle.command.specs.declared.command.Command.{Command}
 use Rattle.command.specs.declared.fault.TextFault.{TextFault}
 use Rattle.session.specs.Answers.{barlow, replied}
 use Rattle.session.specs.Obeying.{Obeyed}
 use Rattle.session.specs.declared.fault.SessionFault.{SessionFault}
-use Rattle.session.specs.declared.session.Reply.{Reply}
 use Rattle.session.specs.declared.session.Session.{Session}
 
 -- a step that the draft followed, and that was replied to as it was answered
-pub obeyed : (read : Result Command TextFault) (command : Command) → read ≡ Ok command → (before after : Session) (a : Answer ℕ) (r : Result Reply SessionFault)
+pub obeyed : (read : Result Command TextFault) (command : Command) → read ≡ Ok command → (before after : Session) (a : Answer ℕ) (r : Result (Option (Settled ℕ)) SessionFault)
     → Stepped barlow total 33 command.step before.draft after.draft a before.sheet after.sheet → r ≡ replied a
     → (is_err r ≡ true → (after.draft ≡ before.draft) × (after.sheet ≡ before.sheet)) → Obeyed read before after r
 obeyed read command is before after a r by same kept = subst (λ x. Obeyed x before after r) (sym is) (record { by_book = λ b h. (a, ((by b h).0, same, (by b h).1)); refused = kept })

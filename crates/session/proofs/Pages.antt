@@ -1,8 +1,8 @@
--- How texts that are written one behind the other stand in a buffer.
-use Rattle.std.proofs.Common.{◌≡◌, ℕ, ◌+◌, ◌-◌, ◌/◌, ◌%◌, ◌^◌, ◌<◌, ◌≤◌, Bool, true, false, cond, List, [], ◌∷◌, ◌++◌, length, take, drop, ℤ, negsuc, nat_abs, codes, decimal, sym, refl, ap, ◌∙◌, subst, append_assoc, arith, length-append, length-drop, w64, SFits, to_z, of_z}
+-- How texts that are written one behind the other stand on a page.
+use Rattle.std.proofs.Common.{◌≡◌, ℕ, ◌+◌, ◌/◌, ◌%◌, ◌^◌, ◌<◌, ◌≤◌, Bool, true, false, cond, List, [], ◌∷◌, ◌++◌, length, take, drop, ℤ, negsuc, nat_abs, codes, decimal, sym, refl, ap, ◌∙◌, subst, append_assoc, arith, length-append, length-drop, w64, SFits, to_z, of_z}
 use lib.Signed.{le_z}
-use Rattle.std.proofs.lemmas.Fmt.{decimal_step, decimal_digit, length-decimal-le}
-use Rattle.std.proofs.lemmas.List.{take_at, drop_at, drop-drop, length-take-le}
+use Rattle.std.proofs.lemmas.Fmt.{length-decimal-le}
+use Rattle.std.proofs.lemmas.List.{take_at, drop_at, drop-drop, length-take-le, take-append-drop}
 use Rattle.std.proofs.lemmas.Int.{to_z-of_z}
 use Rattle.lines.specs.Decimals.{last_digits, with_decimals}
 use Rattle.ratio.specs.Printing.{ratio_text}
@@ -12,7 +12,8 @@ use Rattle.refusal.specs.Texts.{layer_word, refusal_line}
 use Rattle.refusal.specs.declared.Layer.{Layer}
 use Rattle.refusal.specs.declared.Layer.TheVariants.{Text, Ratio as RatioLayer, Draft, Search}
 use Rattle.refusal.specs.declared.Refusal.{Refusal}
-use Rattle.session.specs.Pages.{overwritten, offset_text, Put}
+use Rattle.session.specs.Pages.{overwritten, offset_text, Put, Written, Fresh}
+use Rattle.session.specs.declared.page.Page.{Page}
 
 -- ---- a text in a buffer
 
@@ -57,42 +58,43 @@ overwritten_more out place a b within =
     let text = append_assoc a b (drop (k + length b) out) in
     cc
 
--- the part of the buffer that the text takes, put back after the text was copied into it
-pub part_put : (out : List ℕ) (place : ℕ) (text part : List ℕ) → part ≡ text → take place out ++ (part ++ drop (place + length text - place) (drop place out)) ≡ overwritten out place text
-part_put out place text part copied =
-    let n : ℕ = place + length text - place in
-    let behind : place + n ≡ place + length text = omega arith in
-    let rest : drop n (drop place out) ≡ drop (place + length text) out = drop-drop n place out ∙ ap (λ k. drop k out) behind in
-    λ i. take place out ++ (copied i ++ rest i)
-
--- the same from the two clauses that such a call ensures
-pub put : {out after : List ℕ} {place end : ℕ} (text : List ℕ) → end ≡ place + length text → after ≡ overwritten out place text → Put out place text after end
-put text ended written = record { ended = ended; written = written }
+-- ---- texts on a page
 
 -- two texts that were written one behind the other are one text
-pub then : {out mid after a b : List ℕ} {place m e : ℕ} → place ≤ length out → Put out place a mid m → Put mid m b after e → Put out place (a ++ b) after e
-then {out} {a = a} {b = b} {place = place} within first second = record {
-  ended = second.ended ∙ omega (arith, length-append a b, first.ended);
-  written = second.written ∙ (λ i. overwritten (first.written i) (first.ended i) b) ∙ overwritten_more out place a b within;
+pub then : {p q r : Page} {a b : List ℕ} → Written p a q → Written q b r → Written p (a ++ b) r
+then {p} {q} {r} {a} {b} first second = record {
+  same_reference = second.same_reference ∙ first.same_reference;
+  put = λ fits.
+      let room : p.end + (length a + length b) ≤ length p.out.now = omega (arith, length-append a b, fits) in
+      let one = first.put (omega arith) in
+      let long = overwritten_length p.out.now p.end a (omega arith) in
+      let two = second.put (omega (arith, one.ended, ap length one.written, long)) in
+      record {
+        ended = two.ended ∙ omega (arith, length-append a b, one.ended);
+        written = two.written ∙ (λ i. overwritten (one.written i) (one.ended i) b) ∙ overwritten_more p.out.now p.end a b p.within;
+      };
 }
 
 -- the same of an equal text
-pub as_text : {out after a b : List ℕ} {place e : ℕ} → a ≡ b → Put out place a after e → Put out place b after e
-as_text {out} {after} {place = place} {e = e} same done = subst (λ text. Put out place text after e) same done
+pub as_text : {p q : Page} {a b : List ℕ} → a ≡ b → Written p a q → Written p b q
+as_text {p} {q} same done = subst (λ text. Written p text q) same done
 
--- ---- the digits of a number
+-- what is written on a fresh page stands at the start of its buffer, if it is short enough
+pub put_over : {p q : Page} {buffer filled text : List ℕ} {n : ℕ} → Fresh buffer p → Written p text q → filled ≡ q.out.now → n ≡ q.end → length text ≤ length buffer → Put buffer 0 text filled n
+put_over {p} {q} {buffer} {filled} {text} {n} fresh done left_there ends short =
+    let room : p.end + length text ≤ length p.out.now = omega (arith, fresh.nothing, ap length fresh.over) in
+    let one = done.put room in
+    record {
+      ended = ends ∙ one.ended ∙ ap (λ k. k + length text) fresh.nothing;
+      written = left_there ∙ one.written ∙ (λ i. overwritten (fresh.over i) (fresh.nothing i) text);
+    }
 
--- a number below ten is one digit
-pub one_digit : (n : ℕ) → n < 10 → (48 + n % 10) ∷ [] ≡ decimal n
-one_digit n small = ap (λ d. (48 + d) ∷ []) (omega arith) ∙ sym (decimal_digit n small)
-
--- so its length is 1
-pub length_one : (n : ℕ) → n < 10 → length (decimal n) ≡ 1
-length_one n h = ap length (decimal_digit n h)
-
--- a larger number has one digit more than its tenth part
-pub length_step : (n : ℕ) → 10 ≤ n → n < 2 ^ 64 → length (decimal n) ≡ length (decimal (n / 10)) + 1
-length_step n h s = ap length (decimal_step n h s) ∙ length-append (decimal (n / 10)) ((48 + n % 10) ∷ [])
+-- nothing is written
+pub nothing_written : (p : Page) → Written p [] p
+nothing_written p = record {
+  same_reference = refl;
+  put = λ fits. record { ended = omega arith; written = sym (take-append-drop p.end p.out.now) ∙ ap (λ k. take p.end p.out.now ++ drop k p.out.now) (omega arith) };
+}
 
 -- ---- the pieces of a text
 
@@ -148,11 +150,6 @@ regrouped a b c d e f g = simp append_assoc
 pub refusal_pieces : (r : Refusal) (word : List ℕ) (n : ℕ) → word ≡ layer_word r.layer → n ≡ r.number → (((((codes "no " ++ word) ++ codes " ") ++ decimal n) ++ codes " ") ++ decimal r.column) ++ (10 ∷ []) ≡ refusal_line r ++ (10 ∷ [])
 refusal_pieces r word n spelt number =
     regrouped (codes "no ") word (codes " ") (decimal n) (codes " ") (decimal r.column) (10 ∷ []) ∙ (λ i. (codes "no " ++ (spelt i ++ (codes " " ++ (decimal (number i) ++ (codes " " ++ decimal r.column))))) ++ (10 ∷ []))
-
--- how long they are with the byte that ends the line
-pub refusal_pieces_length : (r : Refusal) (word : List ℕ) (n : ℕ) → word ≡ layer_word r.layer → n ≡ r.number → length (refusal_line r ++ (10 ∷ [])) ≡ 3 + (length word + (1 + (length (decimal n) + (1 + (length (decimal r.column) + 1)))))
-refusal_pieces_length r word n spelt number =
-    length-append (refusal_line r) (10 ∷ []) ∙ omega (arith, refusal_length r, ap length spelt, ap (λ k. length (decimal k)) number)
 
 -- ---- how long a text can be
 

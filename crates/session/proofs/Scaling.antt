@@ -1,7 +1,7 @@
 -- What is read of a book for the line of a tone, and how the lines follow one another. Assumes nothing.
-use Rattle.std.proofs.Common.{◌≡◌, ℕ, zero, suc, ◌+◌, ◌^◌, ◌<◌, ◌≤◌, List, [], ◌∷◌, ◌++◌, map, length, get_or, take, drop, ℤ, pos, ◌-ℤ◌, Some, None, codes, decimal, Option, unwrap_or, sym, refl, ap, ◌∙◌, append_assoc, arith, Bor, MatchOption}
+use Rattle.std.proofs.Common.{◌≡◌, ℕ, zero, suc, ◌+◌, ◌^◌, ◌<◌, ◌≤◌, List, [], ◌∷◌, ◌++◌, map, length, get_or, take, ℤ, pos, ◌-ℤ◌, nat_abs, Some, None, codes, decimal, Option, unwrap_or, sym, refl, ap, ◌∙◌, append_assoc, arith, length-append, Bor, MatchOption}
 use Rattle.std.specs.Option.{option_map}
-use Rattle.std.proofs.lemmas.List.{get_or_past, length-map, length-take, take-append-drop}
+use Rattle.std.proofs.lemmas.List.{get_or_past, length-map, length-take}
 use Rattle.std.specs.List.{flat_map, slice_get}
 use Rattle.draft.specs.Book.{Noted, Book, candidates_of}
 use Rattle.draft.specs.Held.{noted, book_of}
@@ -14,8 +14,9 @@ use Rattle.ratio.specs.Printing.{ratio_text}
 use Rattle.ratio.specs.declared.ratio.Ratio.{Ratio}
 use Rattle.settling.specs.declared.settle.Settled.{Settled}
 use Rattle.std.proofs.lemmas.Fmt.{length-decimal-le}
-use Rattle.session.specs.Answers.{laid_at, pitch_of, tone_line, heading}
-use Rattle.session.specs.Pages.{offset_text, Put}
+use Rattle.session.proofs.Pages.{ratio_short, offset_short}
+use Rattle.session.specs.Answers.{pitch_of, ratio_line, heading}
+use Rattle.session.specs.Pages.{offset_text}
 
 -- what a slice lends of a place, or else d
 pub lent_or : {X : Type 0} (xs : List X) (i : ℕ) (d : X) (o : Option (Bor X)) → MatchOption o (length xs ≤ i) (λ x. (i < length xs) × ((e : X) → x.now ≡ get_or xs i e)) → unwrap_or (option_map (λ x. x.now) o) d ≡ get_or xs i d
@@ -29,8 +30,16 @@ nth_or f (x ∷ xs) zero d = refl
 nth_or f (x ∷ xs) (suc i) d = nth_or f xs i d
 
 -- the candidates that are read are the tone's
-pub candidates_read : (b : Book) (t : ℕ) (o : Option (List Ratio)) → o ≡ candidates_in b t → unwrap_or o [] ≡ candidates_of b t
+candidates_read : (b : Book) (t : ℕ) (o : Option (List Ratio)) → o ≡ candidates_in b t → unwrap_or o [] ≡ candidates_of b t
 candidates_read b t o e = ap (λ x. unwrap_or x []) e ∙ nth_or (λ (n : Noted). n.candidates) b.tones t []
+
+-- the candidates that are lent, or else none, are the tone's
+pub candidates_lent : (b : Book) (t : ℕ) (o : Option (Bor (List Ratio))) (d x : Bor (List Ratio)) → d.now ≡ [] → x ≡ unwrap_or o d → option_map (λ x. x.now) o ≡ candidates_in b t → x.now ≡ candidates_of b t
+candidates_lent b t o d x none is read = ap (λ y. y.now) is ∙ behind o ∙ candidates_read b t (option_map (λ x. x.now) o) read
+  where
+    behind : (o : Option (Bor (List Ratio))) → (unwrap_or o d).now ≡ unwrap_or (option_map (λ x. x.now) o) []
+    behind None = none
+    behind (Some y) = refl
 
 -- the pitch that is read is the tone's
 pub pitch_read : (b : Book) (t : ℕ) (o : Option ℤ) → o ≡ pitch_in b t → unwrap_or o (pos 0) ≡ pitch_of b t
@@ -45,21 +54,29 @@ pub heading_pieces : (s : Settled ℕ) → (((codes "scale " ++ decimal s.cost) 
 heading_pieces s = simp append_assoc
 
 -- the pieces of a tone's line
-pub line_pieces : (b : Book) (sheet : List ℕ) (tone : ℕ) (r : Ratio) (o p : ℤ) → r ≡ laid_at b sheet tone → o ≡ ratio_pitch r -ℤ p → p ≡ pitch_of b tone
-    → ((ratio_text r ++ codes " ") ++ offset_text o) ++ (10 ∷ []) ≡ tone_line b sheet tone
-line_pieces b sheet tone r o p laid above pitch =
-    let text : ((ratio_text r ++ codes " ") ++ offset_text o) ++ (10 ∷ []) ≡ ratio_text r ++ (codes " " ++ (offset_text o ++ (10 ∷ []))) = simp append_assoc in
-    let same : o ≡ ratio_pitch (laid_at b sheet tone) -ℤ pitch_of b tone = above ∙ (λ i. ratio_pitch (laid i) -ℤ pitch i) in
-    text ∙ (λ i. ratio_text (laid i) ++ (codes " " ++ (offset_text (same i) ++ (10 ∷ []))))
+pub line_pieces : (r : Ratio) (pitch above : ℤ) → above ≡ ratio_pitch r -ℤ pitch → ((ratio_text r ++ codes " ") ++ offset_text above) ++ (10 ∷ []) ≡ ratio_line r pitch
+line_pieces r pitch above is =
+    let text : ((ratio_text r ++ codes " ") ++ offset_text above) ++ (10 ∷ []) ≡ ratio_text r ++ (codes " " ++ (offset_text above ++ (10 ∷ []))) = simp append_assoc in
+    text ∙ ap (λ o. ratio_text r ++ (codes " " ++ (offset_text o ++ (10 ∷ [])))) is
 
 -- a draft has at most 32 tones
 pub few_held : (d : Draft) → length (book_of d).tones ≤ 32
 few_held d = omega (arith, length-map (take d.count d.tones) noted, length-take d.count d.tones, d.few)
 
--- nothing is written
-pub put_nothing : (out : List ℕ) (place : ℕ) → Put out place [] out place
-put_nothing out place = record { ended = omega arith; written = sym (take-append-drop place out) ∙ ap (λ k. take place out ++ drop k out) (omega arith) }
-
 -- one more of the lines
 pub lines_more : (f : ℕ → List ℕ) (n : ℕ) → flat_map f (below n) ++ f n ≡ flat_map f (below (n + 1))
 lines_more f n = sym (ap (flat_map f) (below_more n) ∙ gathered_push f (below n) n)
+
+-- the line of a tone takes at most 37 bytes
+pub line_short : (r : Ratio) (pitch : ℤ) → nat_abs (ratio_pitch r -ℤ pitch) < 2 ^ 32 → length (ratio_line r pitch) ≤ 37
+line_short r pitch small =
+    let above : ℤ = ratio_pitch r -ℤ pitch in
+    let tail = length-append (offset_text above) (10 ∷ []) in
+    omega (arith, length-append (ratio_text r) (codes " " ++ (offset_text above ++ (10 ∷ []))), tail, ratio_short r, offset_short above small)
+
+-- the first line of a scale takes at most 48 bytes
+pub heading_short : (s : Settled ℕ) → s.cost < 2 ^ 64 → s.trials < 2 ^ 64 → length (heading s) ≤ 48
+heading_short s cost_fits trials_fits =
+    let trials = length-append (decimal s.trials) (10 ∷ []) in
+    let cost = length-append (decimal s.cost) (codes " " ++ (decimal s.trials ++ (10 ∷ []))) in
+    omega (arith, trials, cost, number_short s.cost cost_fits, number_short s.trials trials_fits)

@@ -1,5 +1,5 @@
 -- What is answered to a line, by the book of entries as it stands.
-use Rattle.std.specs.Prelude.{◌≡◌, ℕ, List, [], ◌∷◌, ◌++◌, map, length, ℤ, pos, ◌-ℤ◌, Ok, Err, codes, decimal, Result, slice_index, slice_index_or}
+use Rattle.std.specs.Prelude.{◌≡◌, ℕ, List, [], ◌∷◌, ◌++◌, map, length, ℤ, pos, ◌-ℤ◌, Some, None, Ok, Err, codes, decimal, Option, Result, slice_index, slice_index_or}
 use Rattle.std.specs.List.{flat_map}
 use Rattle.refusal.specs.Texts.{refusal_line}
 use Rattle.refusal.specs.declared.Refusal.{Refusal}
@@ -23,8 +23,6 @@ use Rattle.session.specs.Faults.{session_refusal, fault_word}
 use Rattle.session.specs.Pages.{offset_text}
 use Rattle.session.specs.declared.fault.SessionFault.{SessionFault}
 use Rattle.session.specs.declared.fault.SessionFault.TheVariants.{Text, Draft, Search}
-use Rattle.session.specs.declared.session.Reply.{Reply}
-use Rattle.session.specs.declared.session.Reply.TheVariants.{Entered, Scale}
 
 -- the distance by which a session settles
 abbrev pub barlow : Ratio → Ratio → ℕ
@@ -38,9 +36,13 @@ laid_at b sheet tone = slice_index_or (candidates_of b tone) (slice_index sheet 
 abbrev pub pitch_of : Book → ℕ → ℤ
 pitch_of b tone = slice_index_or (map (λ n. n.pitch) b.tones) tone (pos 0)
 
+-- the line of a ratio that is laid at a pitch: the ratio, and how far it lies from the pitch
+abbrev pub ratio_line : Ratio → ℤ → List ℕ
+ratio_line r pitch = ratio_text r ++ (codes " " ++ (offset_text (ratio_pitch r -ℤ pitch) ++ (10 ∷ [])))
+
 -- the line of a tone: its ratio, and how far that lies from the tone's own pitch
 abbrev pub tone_line : Book → List ℕ → ℕ → List ℕ
-tone_line b sheet tone = ratio_text (laid_at b sheet tone) ++ (codes " " ++ (offset_text (ratio_pitch (laid_at b sheet tone) -ℤ pitch_of b tone) ++ (10 ∷ [])))
+tone_line b sheet tone = ratio_line (laid_at b sheet tone) (pitch_of b tone)
 
 -- the first line of a scale: `scale`, cost and trials
 abbrev pub heading : Settled ℕ → List ℕ
@@ -54,17 +56,17 @@ scale_text b sheet s = heading s ++ flat_map (tone_line b sheet) (below (length 
 abbrev pub refusal_text : Refusal → List ℕ
 refusal_text r = refusal_line r ++ (10 ∷ [])
 
--- the answer to a step as a session gives it
-abbrev pub replied : Answer ℕ → Result Reply SessionFault
-replied (EnteredAnswer (Ok u)) = Ok Entered
+-- the answer to a step as a session gives it: a scale, or nothing but that something is entered
+abbrev pub replied : Answer ℕ → Result (Option (Settled ℕ)) SessionFault
+replied (EnteredAnswer (Ok u)) = Ok None
 replied (EnteredAnswer (Err fault)) = Err (Draft fault)
-replied (SettledAnswer (Ok settled)) = Ok (Scale settled)
+replied (SettledAnswer (Ok settled)) = Ok (Some settled)
 replied (SettledAnswer (Err fault)) = Err (Search fault)
 
 -- the text of a reply to a line that says a step: by the book before the step, and the sheet after it
-abbrev pub reply_text : Book → List ℕ → Step → List ℕ → Result Reply SessionFault → List ℕ
-reply_text b line step sheet (Ok Entered) = codes "ok" ++ (10 ∷ [])
-reply_text b line step sheet (Ok (Scale settled)) = scale_text b sheet settled
+abbrev pub reply_text : Book → List ℕ → Step → List ℕ → Result (Option (Settled ℕ)) SessionFault → List ℕ
+reply_text b line step sheet (Ok None) = codes "ok" ++ (10 ∷ [])
+reply_text b line step sheet (Ok (Some settled)) = scale_text b sheet settled
 reply_text b line step sheet (Err fault) = refusal_text (session_refusal fault (word_column line (fault_word b step fault)))
 
 -- what a line that says this step, or has this fault, does: its answer's text, and the book and the sheet from before it to

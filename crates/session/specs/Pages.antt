@@ -1,6 +1,7 @@
 -- What stands in a buffer that answers are written into.
-use Rattle.std.specs.Prelude.{◌≡◌, ℕ, ◌+◌, ◌/◌, cond, List, ◌++◌, length, take, drop, ℤ, negsuc, codes, int_le, unsigned_abs}
+use Rattle.std.specs.Prelude.{◌≡◌, ℕ, ◌+◌, ◌/◌, ◌≤◌, cond, List, ◌++◌, length, take, drop, ℤ, negsuc, codes, int_le, unsigned_abs}
 use Rattle.lines.specs.Decimals.{with_decimals}
+use Rattle.session.specs.declared.page.Page.{Page}
 
 -- the bytes of a buffer after text was written over it from a place on
 abbrev pub overwritten : List ℕ → ℕ → List ℕ → List ℕ
@@ -15,3 +16,13 @@ offset_text t = cond (int_le t (negsuc 9)) (codes "-") (codes "+") ++ with_decim
 pub record Put (before : List ℕ) (place : ℕ) (text : List ℕ) (after : List ℕ) (end : ℕ) : Type 0 where
   pub ended : end ≡ place + length text
   pub written : after ≡ overwritten before place text
+
+-- the text was put behind what the page says, if there is room for it, and the page is still over the same buffer
+pub record Written (before : Page) (text : List ℕ) (after : Page) : Type 0 where
+  pub same_reference : after.out.ghost_name ≡ before.out.ghost_name
+  pub put : before.end + length text ≤ length before.out.now → Put before.out.now before.end text after.out.now after.end
+
+-- nothing is written yet on the page, which is over the buffer
+pub record Fresh (buffer : List ℕ) (page : Page) : Type 0 where
+  pub nothing : page.end ≡ 0
+  pub over : page.out.now ≡ buffer

@@ -10,14 +10,17 @@ use draft::fault::DraftFault;
 use settling::fault::SearchFault;
 use settling::step::Step;
 
-/// The column where a fault of the line that was read is told, if the draft has so many tones. A fault of the text knows its
-/// own.
-pub(crate) fn told_at(read: Result<Command, TextFault>, fault: SessionFault, tones: usize) -> usize
+/// The column where a fault of the line that was read is told, if the draft has so many tones: that of the word at fault, or 1
+/// where it is the line as a whole; a fault of the text, which knows its own column, has none here.
+#[tactic(auto, using(crate::proofs::Columns::first_column))]
+pub(crate) fn told_at(
+    read: Result<Command, TextFault>,
+    fault: SessionFault,
+    tones: usize,
+) -> Option<usize>
     ensures told { ToldAt read fault tones result }
 {
-    let Ok(command) = read else {
-        return 0;
-    };
+    let command = read.ok()?;
     match (command.step, fault) {
         (Step::Enter { call }, SessionFault::Draft(fault)) => draft_column(
             command.columns,
@@ -26,35 +29,22 @@ pub(crate) fn told_at(read: Result<Command, TextFault>, fault: SessionFault, ton
             tones,
         ),
         (_, SessionFault::Search(SearchFault::OutOfLimits)) => command.columns.first,
-        _ => 1,
+        _ => Some(1),
     }
 }
 
 /// The column where a fault of the draft is told: that of the ratio, the pitch or bound, the second tone, the leftmost tone
 /// that is not there, the candidate, or the full tone; 1 where the draft has no room for a tone.
-fn draft_column(columns: Columns, call: Call, fault: DraftFault, tones: usize) -> usize
+#[tactic(auto, using(crate::proofs::Columns::first_column))]
+fn draft_column(columns: Columns, call: Call, fault: DraftFault, tones: usize) -> Option<usize>
     ensures column { ColumnOf columns call fault tones result }
 {
     match (fault, call) {
-        (
-            DraftFault::OutOfLimits,
-            Call::Bound {
-                tone: _,
-                other: _,
-                bound: _,
-            },
-        ) => columns.third,
-        (
-            DraftFault::NoTone,
-            Call::Bound {
-                tone,
-                other: _,
-                bound: _,
-            },
-        ) if tone < tones => columns.second,
+        (DraftFault::OutOfLimits, Call::Bound { .. }) => columns.third,
+        (DraftFault::NoTone, Call::Bound { tone, .. }) if tone < tones => columns.second,
         (DraftFault::Entry(_) | DraftFault::SameTone | DraftFault::NoCandidate, _) =>
             columns.second,
-        (DraftFault::TonesFull, _) => 1,
+        (DraftFault::TonesFull, _) => Some(1),
         _ => columns.first,
     }
 }

@@ -1,7 +1,7 @@
 //! A session, which is told lines and answers them.
 
 use draft::draft::Draft;
-use settling::settle::{Settled, Sheet};
+use settling::settle::Sheet;
 
 pub mod hearing;
 
@@ -14,13 +14,4 @@ pub struct Session {
     pub(crate) draft: Draft,
     pub(crate) sheet: Sheet,
     pub(crate) stack: [u64; 33],
-}
-
-/// What a line that is not refused is answered by.
-#[derive(Clone, Copy)]
-pub(crate) enum Reply {
-    /// Something is entered into the draft.
-    Entered,
-    /// The draft is settled; the sheet has the numbers of the scale.
-    Scale(Settled<u64>),
 }

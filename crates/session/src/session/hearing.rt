@@ -1,6 +1,6 @@
 //! How a session follows its lines.
 
-ghost use Rattle.std.specs.Prelude.{[]};
+ghost use Rattle.std.specs.Prelude.{◌≡◌, []};
 ghost use Rattle.draft.specs.Book.{Book};
 ghost use Rattle.draft.specs.Held.{Holds};
 ghost use Rattle.session.specs.Answers.{barlow};
@@ -9,11 +9,10 @@ ghost use Rattle.session.specs.Obeying.{Obeyed};
 ghost use Rattle.settling.specs.Costings.{total};
 ghost use Rattle.settling.specs.Promise.{Settling};
 
-use super::{ANSWER_ROOM, Reply, Session};
+use super::{ANSWER_ROOM, Session};
 use crate::blame::told_at;
 use crate::fault::SessionFault;
-use crate::page::{put_refusal, put_text};
-use crate::scale::put_scale;
+use crate::page::Page;
 use command::command::Command;
 use command::fault::TextFault;
 use costing::total::Total;
@@ -21,7 +20,7 @@ use draft::draft::Draft;
 use measure::weighted::WeightedPrimes;
 use refusal::Refusal;
 use settling::fault::SearchFault;
-use settling::settle::{Settled, Sheet};
+use settling::settle::Settled;
 use settling::step::Step;
 use settling::yardstick::Yardstick;
 
@@ -48,54 +47,44 @@ impl Session {
         }
         let tones = self.draft.tones();
         let read = Command::read(line);
-        let end = match self.obey(read) {
-            Ok(reply) => match reply {
-                Reply::Entered => put_text(answer, 0, b"ok\n"),
-                Reply::Scale(settled) => put_scale(answer, &self.draft, &self.sheet, settled),
-            },
+        let mut page = Page::over(answer);
+        match self.obey(read) {
+            Ok(None) => page.text(b"ok\n"),
+            Ok(Some(settled)) => page.scale(&self.draft, &self.sheet, settled),
             Err(fault) => {
-                let column = told_at(read, fault, tones);
-                put_refusal(answer, 0, fault.refusal(column))
+                let column = told_at(read, fault, tones).unwrap_or(0);
+                page.refusal(fault.refusal(column));
             }
-        };
-        Ok(end)
+        }
+        Ok(page.end())
     }
 
-    /// Takes the step that was read: enters something into the draft, or settles it.
-    fn obey(&mut self, read: Result<Command, TextFault>) -> Result<Reply, SessionFault>
+    /// Takes the step that was read: enters something into the draft, or settles it, which gives a scale.
+    fn obey(
+        &mut self,
+        read: Result<Command, TextFault>,
+    ) -> Result<Option<Settled<u64>>, SessionFault>
         ensures obeyed { Obeyed read self.old self.new result }
     {
         match read?.step {
             Step::Enter { call } => {
                 self.draft.put(call)?;
-                Ok(Reply::Entered)
+                Ok(None)
             }
-            Step::Settle { allowance } => {
-                let settled = settle_by_barlow(
-                    &self.draft,
-                    allowance,
-                    &mut self.sheet,
-                    &mut self.stack,
-                )?;
-                Ok(Reply::Scale(settled))
-            }
+            Step::Settle { allowance } => Ok(Some(self.settle(allowance)?)),
         }
     }
-}
 
-/// Settles the draft by Barlow's measure and the total of the distances.
-fn settle_by_barlow(
-    draft: &Draft,
-    allowance: u64,
-    sheet: &mut Sheet,
-    stack: &mut [u64; 33],
-) -> Result<Settled<u64>, SearchFault>
-    ensures settles { (b : Book) → Holds draft.now b → Settling barlow total b allowance 33 result sheet.old sheet.new }
-{
-    let barlow = WeightedPrimes::barlow();
-    let yardstick = Yardstick {
-        measure: &barlow,
-        costing: &Total,
-    };
-    yardstick.settle(draft, allowance, sheet, stack)
+    /// Settles the draft by Barlow's measure and the total of the distances.
+    fn settle(&mut self, allowance: u64) -> Result<Settled<u64>, SearchFault>
+        ensures settles { (b : Book) → Holds self.old.draft b → Settling barlow total b allowance 33 result self.old.sheet self.new.sheet }
+        ensures draft { self.new.draft ≡ self.old.draft }
+    {
+        let barlow = WeightedPrimes::barlow();
+        let yardstick = Yardstick {
+            measure: &barlow,
+            costing: &Total,
+        };
+        yardstick.settle(&self.draft, allowance, &mut self.sheet, &mut self.stack)
+    }
 }

@@ -1,61 +1,60 @@
-use Rattle.std.proofs.Common.{[], ◌∷◌, Ok, Err, refl, ap, subst, arith, length-append, rules}
+use Rattle.std.proofs.Common.{◌≤◌, length, Ok, Err, Some, None, subst, ap, ◌∙◌, arith, rules, length-append, [], ◌∷◌}
 use Rattle.draft.proofs.Holding.{held_book}
 use Rattle.draft.specs.Held.{book_of}
 use Rattle.refusal.specs.Texts.{refusal_line}
-use Rattle.session.specs.Answers.{scale_text, refusal_text}
+use Rattle.session.specs.Answers.{refusal_text, scale_text}
+use Rattle.session.specs.Faults.{session_refusal}
 use Rattle.session.specs.Obeying.{Obeyed}
-use Rattle.session.specs.declared.session.Reply.TheVariants.{Entered, Scale}
-use Rattle.session.proofs.Pages.{put, as_text, refusal_short}
-use Rattle.session.proofs.Following.{heard_one, entered_spoken, scale_holds, scale_spoken, refused_spoken, other_start}
+use Rattle.session.specs.Pages.{Written}
+use Rattle.session.proofs.Pages.{as_text, refusal_short}
+use Rattle.session.proofs.Following.{heard_one, entered_spoken, scale_holds, scale_spoken, refused_spoken}
 use Rattle.session.proofs.session.Session.hear.Goals as goal
+use Rattle.session.proofs.session.Session.hear.Goals.{in-Ok-None, in-Ok-Some, in-Err}
 
-pub put_refusal-end-requires : goal.put_refusal-end-requires
-put_refusal-end-requires c =
-    let r = c.refusal-in-Err.result in
-    omega (arith, refusal_short r (search rules) (search rules), length-append (refusal_line r) (10 ∷ []))
-
-pub returns-in-Entered : goal.returns-in-Entered
-returns-in-Entered c =
-    let did = subst (λ x. Obeyed c.read-read.result c.args.self.now c.obey.new.self (Ok x)) c.in-Entered.is c.in-Ok.ensures.obeyed in
-    let ok = put (111 ∷ (107 ∷ (10 ∷ []))) c.put_text.ensures.end c.put_text.ensures.written in
-    record {
-      heard = (
-        c.if-answer-lt-ANSWER_ROOM.false,
-        heard_one c.args.self.now c.obey.new.self c.args.line.now c.args.answer.now c.put_text.new.out c.put_text.result c.read-read.result (Ok Entered) c.read-read.ensures.read did
-            (λ b h. (_, (ok, entered_spoken c.args.line.now c.read-read.result c.args.self.now c.obey.new.self b did)))
-            (omega arith)
-            (other_start 111 _ c.put_text.new.out (λ e. omega arith) c.put_text.ensures.written),
-      );
-    }
-
-pub returns-in-Scale : goal.returns-in-Scale
-returns-in-Scale c =
-    let s = c.in-Scale.settled in
-    let did = subst (λ x. Obeyed c.read-read.result c.args.self.now c.obey.new.self (Ok x)) c.in-Scale.is c.in-Ok.ensures.obeyed in
-    record {
-      heard = (
-        c.if-answer-lt-ANSWER_ROOM.false,
-        heard_one c.args.self.now c.obey.new.self c.args.line.now c.args.answer.now c.put_scale.new.out c.put_scale.result c.read-read.result (Ok (Scale s)) c.read-read.ensures.read did
-            (λ b h. (scale_text b c.obey.new.self.sheet s, (c.put_scale.ensures.put b (scale_holds c.read-read.result c.args.self.now c.obey.new.self b s h did), scale_spoken c.args.line.now c.read-read.result c.args.self.now c.obey.new.self b s did)))
-            c.put_scale.ensures.fits
-            (other_start 115 _ c.put_scale.new.out (λ e. omega arith) (c.put_scale.ensures.put (book_of c.obey.new.self.draft) (held_book c.obey.new.self.draft)).written),
-      );
-    }
-
-pub returns-in-Err : goal.returns-in-Err
-returns-in-Err c =
-    let did = c.in-Err.ensures.obeyed in
-    let fault = c.in-Err.fault in
-    let column = c.told_at-column.result in
-    let r = c.refusal-in-Err.result in
-    let short = refusal_short r (search rules) (search rules) in
-    let line = put (refusal_text r) c.put_refusal-end.ensures.end c.put_refusal-end.ensures.written in
-    record {
-      heard = (
-        c.if-answer-lt-ANSWER_ROOM.false,
-        heard_one c.args.self.now c.obey.new.self c.args.line.now c.args.answer.now c.put_refusal-end.new.out c.put_refusal-end.result c.read-read.result (Err fault) c.read-read.ensures.read did
-            (λ b h. (_, (as_text (ap refusal_text c.refusal-in-Err.ensures) line, refused_spoken c.args.line.now c.read-read.result c.args.self.now c.obey.new.self b fault c.tones-tones.result column did c.told_at-column.ensures.told (c.tones-tones.ensures.by_book b h) c.read-read.ensures.placed)))
-            (omega (arith, c.put_refusal-end.ensures.end, length-append (refusal_line r) (10 ∷ [])))
-            (λ e. refl),
-      );
-    }
+pub returns : goal.returns
+returns c =
+    let reference = c.over-page.ensures.same_reference in
+    let long = c.if-answer-lt-ANSWER_ROOM.false in
+    let line = c.args.line.now in
+    let read = c.read-read.result in
+    let before = c.args.self.now in
+    let after = c.obey.new.self in
+    elim c.match-obey.branch [
+      | in-Ok-None w ↦
+          let name = ap (λ p. p.out.ghost_name) w.page-is ∙ w.text.ensures.written.same_reference in
+          let did = subst (λ x. Obeyed read before after (Ok x)) w.in-Ok-None.field-0-is w.in-Ok-None.ensures.obeyed in
+          record {
+            heard = (
+              long,
+              heard_one {q = w.text.new.self} read (Ok None) c.read-read.ensures.read did long c.over-page.ensures.fresh (search rules) (search rules)
+                  (λ b h. (_, (omega arith, (w.text.ensures.written, entered_spoken line read before after b did)))),
+            );
+          }
+      | in-Ok-Some w ↦
+          let s = w.in-Ok-Some.settled in
+          let did = subst (λ x. Obeyed read before after (Ok x)) w.in-Ok-Some.field-0-is w.in-Ok-Some.ensures.obeyed in
+          let name = ap (λ p. p.out.ghost_name) w.page-is ∙ (w.scale.ensures.written (book_of after.draft) (held_book after.draft)).same_reference in
+          record {
+            heard = (
+              long,
+              heard_one {q = w.scale.new.self} read (Ok (Some s)) c.read-read.ensures.read did long c.over-page.ensures.fresh (search rules) (search rules)
+                  (λ b h. let holds = scale_holds read before after b s h did in (scale_text b after.sheet s, (subst (λ x. length (scale_text b after.sheet x) ≤ 1280) w.in-Ok-Some.settled-is (w.scale.ensures.short b holds), (subst (λ x. Written c.over-page.result (scale_text b after.sheet x) w.scale.new.self) w.in-Ok-Some.settled-is (w.scale.ensures.written b holds), scale_spoken line read before after b s did)))),
+            );
+          }
+      | in-Err w ↦
+          let fault = w.in-Err.fault in
+          let did = w.in-Err.ensures.obeyed in
+          let r = w.refusal-in-Err.result in
+          let name = ap (λ p. p.out.ghost_name) w.page-is ∙ w.refusal-in-Err-2.ensures.written.same_reference in
+          record {
+            heard = (
+              long,
+              heard_one {q = w.refusal-in-Err-2.new.self} read (Err fault) c.read-read.ensures.read did long c.over-page.ensures.fresh (search rules) (search rules)
+                  (λ b h.
+                  let spoken = refused_spoken line read before after b fault c.tones-tones.result w.told_at.result did w.told_at.ensures.told (c.tones-tones.ensures.by_book b h) c.read-read.ensures.placed in
+                  let short : length (refusal_text r) ≤ 1280 = omega (arith, refusal_short r (search rules) (search rules), length-append (refusal_line r) (10 ∷ [])) in
+                  let is = w.refusal-in-Err.ensures ∙ ap (session_refusal fault) w.unwrap_or-column.ensures in
+                  (_, (subst (λ x. length (refusal_text x) ≤ 1280) is short, (as_text (ap refusal_text is) w.refusal-in-Err-2.ensures.written, spoken)))),
+            );
+          }
+    ]
