@@ -1,14 +1,17 @@
 -- The distance by weights is the harmonic distance; disharmonicity over products and parts. Assumes nothing.
-use Rattle.std.proofs.Common.{◌≡◌, ℕ, zero, suc, ◌+◌, ◌*◌, ◌^◌, ◌<◌, ◌≤◌, List, [], ◌∷◌, map, length, ℤ, pos, negsuc, ◌-ℤ◌, neg_ℤ, nat_abs, sym, refl, ap, ◌∙◌, mul-le-mul_right, mul_comm, add-mul, mul-pos, one-mul, mul-zero, zero-mul, mul-one, arith}
+use Rattle.std.proofs.Common.{◌≡◌, ℕ, zero, suc, ◌+◌, ◌*◌, ◌^◌, ◌<◌, List, [], ◌∷◌, map, length, ℤ, pos, negsuc, ◌-ℤ◌, neg_ℤ, nat_abs, sym, refl, ap, ◌∙◌, mul_comm, add-mul, mul-pos, one-mul, mul-one, arith, rules}
 use native.Mathlib.Nat.{pow-zero, pow-succ'}
-use lib.ListN.{length-map}
+use Rattle.std.specs.List.{AllByRecursion, zip}
+use Rattle.std.proofs.lemmas.List.{length-map}
+use Rattle.std.proofs.lemmas.Simd.{map-map}
+use Rattle.std.proofs.lemmas.Slice.Zip.{length-zip}
 use borrow.Author.Differences.{up, down}
 use Rattle.std.proofs.lemmas.Int.{ints}
+use Rattle.std.proofs.Math.Nat.{dvd-mul_right, eq-one_of_dvd-one}
 use Rattle.ratio.specs.declared.ratio.Ratio.{Ratio}
 use Rattle.ratio.specs.Products.{primes, product, numerator, denominator}
 use Rattle.ratio.specs.Entry.{Quotient}
 use Rattle.ratio.specs.Parts.{unison}
-use Rattle.std.specs.List.{AllByRecursion}
 use Rattle.ratio.proofs.Factoring.{plus, length_plus, product_plus}
 use Rattle.ratio.proofs.Entered.{quotient_once}
 use Rattle.ratio.proofs.Coprime.{no_common}
@@ -20,15 +23,10 @@ use Rattle.measure.specs.Harmonic.{sum_by_primes, Disharmonicity, HarmonicDistan
 
 -- the exponents of a quotient of two ratios
 abbrev pub less : List ℤ → List ℤ → List ℤ
-less [] ys = []
-less (x ∷ xs) [] = []
-less (x ∷ xs) (y ∷ ys) = (x -ℤ y) ∷ less xs ys
+less xs ys = map (λ (p : ℤ × ℤ). p.0 -ℤ p.1) (zip xs ys)
 
 length_less : (xs ys : List ℤ) (n : ℕ) → length xs ≡ n → length ys ≡ n → length (less xs ys) ≡ n
-length_less [] ys n h i = h
-length_less (x ∷ xs) [] n h i = absurd (omega arith)
-length_less (x ∷ xs) (y ∷ ys) zero h i = absurd (omega arith)
-length_less (x ∷ xs) (y ∷ ys) (suc n) h i = ap suc (length_less xs ys n (omega arith) (omega arith))
+length_less xs ys n h i = omega (arith, length-map (zip xs ys) (λ (p : ℤ × ℤ). p.0 -ℤ p.1), length-zip xs ys)
 
 balance : (x y : ℤ) → (up x + down y) + down (x -ℤ y) ≡ (down x + up y) + up (x -ℤ y)
 balance x y = omega (arith, ints)
@@ -57,19 +55,18 @@ quotient_of a b la lb =
 
 -- ---- the harmonic distance
 
-pub weighted_sum : (ws : List ℕ) (xs ys : List ℤ) → length xs ≡ length ys → weighted ws xs ys ≡ sum_by_primes ws (less xs ys)
-weighted_sum [] xs ys h = refl
-weighted_sum (w ∷ ws) [] [] h = refl
-weighted_sum (w ∷ ws) [] (y ∷ ys) h = absurd (omega arith)
-weighted_sum (w ∷ ws) (x ∷ xs) [] h = absurd (omega arith)
-weighted_sum (w ∷ ws) (x ∷ xs) (y ∷ ys) h = omega (arith, mul_comm w (apart x y), weighted_sum ws xs ys (omega arith))
+pub weighted_sum : (ws : List ℕ) (xs ys : List ℤ) → weighted ws xs ys ≡ sum_by_primes ws (less xs ys)
+weighted_sum [] xs ys = refl
+weighted_sum (w ∷ ws) [] ys = refl
+weighted_sum (w ∷ ws) (x ∷ xs) [] = refl
+weighted_sum (w ∷ ws) (x ∷ xs) (y ∷ ys) = omega (arith, mul_comm w (apart x y), weighted_sum ws xs ys)
 
 pub harmonic : (ws : List ℕ) (x y : Ratio) → HarmonicDistance ws x y (weighted_distance ws x y)
 harmonic ws x y = record {
   powers = less x.exponents y.exponents;
   six = length_less x.exponents y.exponents 6 x.six y.six;
   factors = quotient_of x.exponents y.exponents x.six y.six;
-  sum = weighted_sum ws x.exponents y.exponents (x.six ∙ sym y.six);
+  sum = weighted_sum ws x.exponents y.exponents;
 }
 
 -- a rational number has one disharmonicity
@@ -93,10 +90,7 @@ abbrev NonNegative : List ℤ → Type 0
 NonNegative es = AllByRecursion (λ e. down e ≡ 0) es
 
 factor_one : (m n : ℕ) → m * n ≡ 1 → m ≡ 1
-factor_one zero n e = absurd (omega (arith, zero-mul n))
-factor_one (suc zero) n e = refl
-factor_one (suc (suc m)) zero e = absurd (omega (arith, mul-zero (suc (suc m))))
-factor_one (suc (suc m)) (suc n) e = let two : 2 * suc n ≤ suc (suc m) * suc n = mul-le-mul_right (suc n) (omega arith) in absurd (omega arith)
+factor_one m n e = eq-one_of_dvd-one (rw e at (dvd-mul_right m n))
 
 no_power : (p k : ℕ) → 1 < p → p ^ k ≡ 1 → k ≡ 0
 no_power p zero big e = refl
@@ -131,11 +125,10 @@ sums_add (w ∷ ws) (x ∷ a) (y ∷ b) l p q =
     omega (arith, here, sums_add ws a b (omega arith) p.1 q.1)
 
 multiplied : (x y a b c d m n : ℕ) → x ≡ a → y ≡ b → c ≡ 1 → d ≡ 1 → (a * b) * m ≡ (c * d) * n → (x * y) * m ≡ 1 * n
-multiplied x y a b c d m n ex ey ec ed e =
-    ap (λ k. (k * y) * m) ex ∙ (ap (λ k. (a * k) * m) ey ∙ (e ∙ (ap (λ k. (k * d) * n) ec ∙ ap (λ k. (1 * k) * n) ed)))
+multiplied x y a b c d m n ex ey ec ed e = rw (ex, ey) (rw (ec, ed) at e)
 
 primes_large : AllByRecursion (λ p. 1 < p) primes
-primes_large = (omega arith, (omega arith, (omega arith, (omega arith, (omega arith, (omega arith, tt))))))
+primes_large = search rules
 
 pub additive : (ws : List ℕ) → Additive ws
 additive ws x y g h p q =
@@ -158,10 +151,6 @@ additive ws x y g h p q =
 abbrev lifted : (ℤ → ℕ) → List ℤ → List ℤ
 lifted f es = map (λ e. pos (f e)) es
 
-lifted_up : (f : ℤ → ℕ) (es : List ℤ) → map up (lifted f es) ≡ map f es
-lifted_up f [] = refl
-lifted_up f (e ∷ es) = ap (λ ks. f e ∷ ks) (lifted_up f es)
-
 lifted_down : (f : ℤ → ℕ) (ps : List ℕ) (es : List ℤ) → product ps (map down (lifted f es)) ≡ 1
 lifted_down f [] es = refl
 lifted_down f (p ∷ ps) [] = refl
@@ -171,7 +160,7 @@ of_whole : (ws : List ℕ) (f : ℤ → ℕ) (es : List ℤ) → length es ≡ 6
 of_whole ws f es six = record {
   powers = lifted f es;
   six = length-map es (λ e. pos (f e)) ∙ six;
-  factors = ap (λ n. product primes (map f es) * n) (lifted_down f primes es) ∙ (mul-one (product primes (map f es)) ∙ (sym (ap (product primes) (lifted_up f es)) ∙ sym (one-mul (numerator (lifted f es)))));
+  factors = ap (λ n. product primes (map f es) * n) (lifted_down f primes es) ∙ (mul-one (product primes (map f es)) ∙ (sym (ap (product primes) (map-map up (λ e. pos (f e)) es)) ∙ sym (one-mul (numerator (lifted f es)))));
   sum = refl;
 }
 

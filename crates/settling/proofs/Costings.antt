@@ -3,9 +3,11 @@ use Rattle.std.proofs.Common.{◌≡◌, ℕ, ◌+◌, ◌^◌, ◌<◌, ◌≤�
 use Rattle.std.proofs.lemmas.Bool.{leb-true, le-leb, cases_lt}
 use Rattle.settling.specs.Settling.{Lawful}
 use Rattle.costing.specs.Costs.{added, pair_within}
-use Rattle.costing.specs.Laws.Added.{added_associative}
 use Rattle.std.proofs.lemmas.Bool.Decides.{nat_tests}
 use Rattle.settling.specs.Costings.{total, worst, worst_then_total}
+
+added_associative : (a b c : ℕ) → added (added a b) c ≡ added a (added b c)
+added_associative a b c = grind arith
 
 leb_transitive : (u v w : ℕ) → leb u v ≡ true → leb v w ≡ true → leb u w ≡ true
 leb_transitive u v w a b = le-leb u w (omega (arith, leb-true u v a, leb-true v w b))
