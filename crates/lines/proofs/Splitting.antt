@@ -1,5 +1,5 @@
 -- How the lines of an input follow from those of its parts.
-use Rattle.std.proofs.Common.{◌≡◌, ℕ, Bool, true, false, cond, eqb, List, [], ◌∷◌, ◌++◌, sym, refl, ap, ◌∙◌, append_assoc, append-nil}
+use Rattle.std.proofs.Common.{◌≡◌, ℕ, Bool, true, false, cond, eqb, List, [], ◌∷◌, ◌++◌, sym, refl, ap, ◌∙◌, append_assoc, append-nil, arith}
 use Rattle.std.proofs.ByRecursion.{All-push}
 use Rattle.std.proofs.lemmas.Bool.{eqb-true, eqb-false}
 use Rattle.std.specs.List.{AllByRecursion}
@@ -8,20 +8,12 @@ use Rattle.lines.specs.Splitting.{ended_on, open_on, ended, open_line, rejoin, U
 -- the lines that two parts end: the second goes on with the line that the first leaves open
 pub ended-++ : (line xs ys : List ℕ) → ended_on line (xs ++ ys) ≡ ended_on line xs ++ ended_on (open_on line xs) ys
 ended-++ line [] ys = refl
-ended-++ line (x ∷ xs) ys =
-    elim (eqb x 10) as (λ v. cond v (line ∷ ended_on [] (xs ++ ys)) (ended_on (line ++ (x ∷ [])) (xs ++ ys)) ≡ cond v (line ∷ ended_on [] xs) (ended_on (line ++ (x ∷ [])) xs) ++ ended_on (cond v (open_on [] xs) (open_on (line ++ (x ∷ [])) xs)) ys) [
-      | true ↦ ap (λ ls. line ∷ ls) (ended-++ [] xs ys)
-      | false ↦ ended-++ (line ++ (x ∷ [])) xs ys
-    ]
+ended-++ line (x ∷ xs) ys = grind (arith, ended-++ [] xs ys, ended-++ (line ++ (x ∷ [])) xs ys)
 
 -- the line that two parts leave open
 pub open-++ : (line xs ys : List ℕ) → open_on line (xs ++ ys) ≡ open_on (open_on line xs) ys
 open-++ line [] ys = refl
-open-++ line (x ∷ xs) ys =
-    elim (eqb x 10) as (λ v. cond v (open_on [] (xs ++ ys)) (open_on (line ++ (x ∷ [])) (xs ++ ys)) ≡ open_on (cond v (open_on [] xs) (open_on (line ++ (x ∷ [])) xs)) ys) [
-      | true ↦ open-++ [] xs ys
-      | false ↦ open-++ (line ++ (x ∷ [])) xs ys
-    ]
+open-++ line (x ∷ xs) ys = grind (arith, open-++ [] xs ys, open-++ (line ++ (x ∷ [])) xs ys)
 
 -- the lines with one byte more
 pub ended_push : (past : List ℕ) (byte : ℕ) → ended (past ++ (byte ∷ [])) ≡ ended past ++ cond (eqb byte 10) (open_line past ∷ []) []
