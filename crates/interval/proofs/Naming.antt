@@ -54,8 +54,11 @@ text_named x =
       entered = parts_entered x;
     }
 
-pub only_named : (line : List ℕ) (r : Result Ratio LineFault) → Named line r → (s : Result Ratio LineFault) → Named line s → s ≡ r
-only_named line r p s q = named_once line s r q p
-
-pub printed_named : (line : List ℕ) (r : Result Ratio LineFault) → Named line r → (x : Ratio) → line ≡ ratio_text x → r ≡ Ok x
-printed_named line r p x e = named_once line r (Ok x) p (subst (λ l. Named l (Ok x)) (sym e) (text_named x))
+-- so what a line names is the only thing that it names, and a printed ratio is named by its text
+pub named_so : (line : List ℕ) (r : Result Ratio LineFault) → Named line r
+    → record { names : Named line r; only : (s : Result Ratio LineFault) → Named line s → s ≡ r; again : (x : Ratio) → line ≡ ratio_text x → r ≡ Ok x }
+named_so line r p = record {
+  names = p;
+  only = λ s q. named_once line s r q p;
+  again = λ x e. named_once line r (Ok x) p (subst (λ l. Named l (Ok x)) (sym e) (text_named x));
+}

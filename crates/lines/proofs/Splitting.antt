@@ -1,27 +1,20 @@
 -- How the lines of an input follow from those of its parts.
-use Rattle.std.proofs.Common.{◌≡◌, ℕ, Bool, true, false, cond, eqb, List, [], ◌∷◌, ◌++◌, sym, refl, ap, ◌∙◌, append_assoc, append-nil}
+use Rattle.std.proofs.Common.{◌≡◌, ℕ, Bool, true, false, cond, eqb, List, [], ◌∷◌, ◌++◌, sym, refl, append_assoc, append-nil, arith}
 use Rattle.std.proofs.ByRecursion.{All-push}
-use Rattle.std.proofs.lemmas.Bool.{eqb-true, eqb-false}
+use Rattle.std.proofs.lemmas.Bool.{eqb-false}
+use Rattle.std.proofs.lemmas.Bool.Decides.{nat_tests}
 use Rattle.std.specs.List.{AllByRecursion}
 use Rattle.lines.specs.Splitting.{ended_on, open_on, ended, open_line, rejoin, Unbroken, Split}
 
 -- the lines that two parts end: the second goes on with the line that the first leaves open
 pub ended-++ : (line xs ys : List ℕ) → ended_on line (xs ++ ys) ≡ ended_on line xs ++ ended_on (open_on line xs) ys
 ended-++ line [] ys = refl
-ended-++ line (x ∷ xs) ys =
-    elim (eqb x 10) as (λ v. cond v (line ∷ ended_on [] (xs ++ ys)) (ended_on (line ++ (x ∷ [])) (xs ++ ys)) ≡ cond v (line ∷ ended_on [] xs) (ended_on (line ++ (x ∷ [])) xs) ++ ended_on (cond v (open_on [] xs) (open_on (line ++ (x ∷ [])) xs)) ys) [
-      | true ↦ ap (λ ls. line ∷ ls) (ended-++ [] xs ys)
-      | false ↦ ended-++ (line ++ (x ∷ [])) xs ys
-    ]
+ended-++ line (x ∷ xs) ys = grind (arith, ended-++ [] xs ys, ended-++ (line ++ (x ∷ [])) xs ys)
 
 -- the line that two parts leave open
 pub open-++ : (line xs ys : List ℕ) → open_on line (xs ++ ys) ≡ open_on (open_on line xs) ys
 open-++ line [] ys = refl
-open-++ line (x ∷ xs) ys =
-    elim (eqb x 10) as (λ v. cond v (open_on [] (xs ++ ys)) (open_on (line ++ (x ∷ [])) (xs ++ ys)) ≡ open_on (cond v (open_on [] xs) (open_on (line ++ (x ∷ [])) xs)) ys) [
-      | true ↦ open-++ [] xs ys
-      | false ↦ open-++ (line ++ (x ∷ [])) xs ys
-    ]
+open-++ line (x ∷ xs) ys = grind (arith, open-++ [] xs ys, open-++ (line ++ (x ∷ [])) xs ys)
 
 -- the lines with one byte more
 pub ended_push : (past : List ℕ) (byte : ℕ) → ended (past ++ (byte ∷ [])) ≡ ended past ++ cond (eqb byte 10) (open_line past ∷ []) []
@@ -34,10 +27,7 @@ open_push past byte = open-++ [] past (byte ∷ [])
 -- the ended lines, each with its byte 10, and the open line are the input
 pub rejoined : (line bs : List ℕ) → rejoin (ended_on line bs) (open_on line bs) ≡ line ++ bs
 rejoined line [] = sym (append-nil line)
-rejoined line (b ∷ bs) = by (eqb b 10) refl (rejoined [] bs) (rejoined (line ++ (b ∷ [])) bs) where
-  by : (v : Bool) → eqb b 10 ≡ v → rejoin (ended_on [] bs) (open_on [] bs) ≡ bs → rejoin (ended_on (line ++ (b ∷ [])) bs) (open_on (line ++ (b ∷ [])) bs) ≡ (line ++ (b ∷ [])) ++ bs → rejoin (cond v (line ∷ ended_on [] bs) (ended_on (line ++ (b ∷ [])) bs)) (cond v (open_on [] bs) (open_on (line ++ (b ∷ [])) bs)) ≡ line ++ (b ∷ bs)
-  by true e anew onward = append_assoc (line ++ (10 ∷ [])) _ _ ∙ ap (λ rest. (line ++ (10 ∷ [])) ++ rest) anew ∙ append_assoc line (10 ∷ []) bs ∙ ap (λ c. line ++ (c ∷ bs)) (sym (eqb-true b 10 e))
-  by false e anew onward = onward ∙ append_assoc line (b ∷ []) bs
+rejoined line (b ∷ bs) = grind (arith, nat_tests, append_assoc, rejoined [] bs, rejoined (line ++ (b ∷ [])) bs)
 
 -- no line that is cut off holds byte 10
 pub cut : (line bs : List ℕ) → Unbroken line → AllByRecursion Unbroken (ended_on line bs) × Unbroken (open_on line bs)
