@@ -1,9 +1,8 @@
 -- Lines that are known by their first 81 bytes. Assumes nothing.
-use Rattle.std.proofs.Common.{◌≡◌, ℕ, ◌<◌, ◌≤◌, List, [], ◌∷◌, ◌++◌, length, take, replicate, Some, None, Ok, Err, Option, Result, sym, ap, ◌∙◌, subst, ⊎_elim, append-nil, arith}
+use Rattle.std.proofs.Common.{◌≡◌, ℕ, ◌<◌, ◌≤◌, List, [], ◌∷◌, ◌++◌, length, take, replicate, Ok, Err, Result, sym, refl, ap, ◌∙◌, subst, ⊎_elim, append-nil, arith}
 use Rattle.std.proofs.lemmas.Bool.{cases_lt}
 use Rattle.lines.proofs.Hearing.{heard_count, heard_whole}
-use Rattle.lines.specs.Hearing.{held, OneMore}
-use Rattle.lines.specs.declared.line.Line.{Line}
+use Rattle.lines.specs.Splitting.{ended, open_line, all_lines, unless_empty}
 use Rattle.draft.specs.Book.{Book, new_book}
 use Rattle.settling.proofs.Listed.{gathered_push}
 use Rattle.settling.specs.declared.step.Step.{Step}
@@ -12,9 +11,8 @@ use Rattle.command.specs.declared.fault.TextFault.{TextFault}
 use Rattle.command.specs.declared.fault.TextFault.TheVariants.{TooLong, NoCommand, WrongWords, NoForm}
 use Rattle.session.specs.Answers.{Done, LineDone}
 use Rattle.session.specs.Following.{AllDone, Followed}
-use Rattle.session.specs.Transcribing.{in_a_row, ToldAnswered}
+use Rattle.session.specs.Transcribing.{in_a_row}
 use Rattle.session.specs.declared.session.Session.{Session}
-use Rattle.session.specs.declared.transcript.Transcript.{Transcript}
 
 -- of a line over 80 bytes nothing matters but that
 long_done : (line past text : List ℕ) (r : Result Step TextFault) (b b' : Book) (s s' : List ℕ) → 80 < length line → 80 < length past → Read line r → Done line r text b b' s s'
@@ -42,26 +40,22 @@ last_done [] (t ∷ answers) line past b b' s s' e all = (all.0, (all.1.0, (held
 last_done (l ∷ lines) [] line past b b' s s' e all = absurd all
 last_done (l ∷ lines) (t ∷ answers) line past b b' s s' e all = (all.0, (all.1.0, (all.1.1.0, last_done lines answers line past all.0 b' all.1.0 s' e all.1.1.1)))
 
-followed_held : (session : Session) (lines answers : List (List ℕ)) (line past : List ℕ) → line ≡ take 81 past → Followed session (lines ++ (line ∷ [])) answers
+pub followed_held : (session : Session) (lines answers : List (List ℕ)) (line past : List ℕ) → line ≡ take 81 past → Followed session (lines ++ (line ∷ [])) answers
     → Followed session (lines ++ (past ∷ [])) answers
 followed_held session lines answers line past e f = record { book = f.book; done = last_done lines answers line past new_book f.book (replicate 32 0) session.sheet e f.done; holds = f.holds }
 
 -- one text more in a row
-row_more : (texts : List (List ℕ)) (text : List ℕ) → in_a_row texts ++ text ≡ in_a_row (texts ++ (text ∷ []))
+pub row_more : (texts : List (List ℕ)) (text : List ℕ) → in_a_row texts ++ text ≡ in_a_row (texts ++ (text ∷ []))
 row_more texts text = sym (gathered_push (λ (t : List ℕ). t) texts text)
 
--- the line that is told, or none, was answered, and so the session has heard the lines with it
-pub told_followed : (told : Option Line) (before after : Transcript) (buffer filled : List ℕ) (n : ℕ) (line : List ℕ) (lines more answers : List (List ℕ)) → ToldAnswered told before after buffer filled n
-    → OneMore told line lines more → Followed before.session lines answers
-    → (now : List (List ℕ)) × (Followed after.session more now × (in_a_row answers ++ take n filled ≡ in_a_row now))
-told_followed None before after buffer filled n line lines more answers done one f =
-    (answers, (subst (λ l. Followed after.session l answers) (sym one) (subst (λ t. Followed t.session lines answers) (sym done.0) f), ap (λ k. in_a_row answers ++ take k filled) done.2 ∙ append-nil (in_a_row answers)))
-told_followed (Some l) before after buffer filled n line lines more answers done one f =
-    let text : List ℕ = take n filled in
-    let heard = followed_held after.session lines (answers ++ (text ∷ [])) (held l) line one.0 (done.one.followed lines answers f) in
-    (answers ++ (text ∷ []), (subst (λ ls. Followed after.session ls (answers ++ (text ∷ []))) (sym one.1) heard, row_more answers text))
+alone : (line : List ℕ) → (line ≡ [] → ⊥) → unless_empty line ≡ line ∷ []
+alone [] some = absurd (some refl)
+alone (b ∷ line) some = refl
 
--- what is read of the next line stays
-pub told_next : (told : Option Line) (before after : Transcript) (buffer filled : List ℕ) (n : ℕ) → ToldAnswered told before after buffer filled n → after.line ≡ before.line
-told_next None before after buffer filled n done = ap (λ t. t.line) done.0
-told_next (Some l) before after buffer filled n done = done.next
+-- the lines of an input whose last is open
+pub lines_with_last : (past : List ℕ) → (open_line past ≡ [] → ⊥) → ended past ++ (open_line past ∷ []) ≡ all_lines past
+lines_with_last past some = ap (λ last. ended past ++ last) (sym (alone (open_line past) some))
+
+-- and of one where none is open
+pub lines_without_last : (past : List ℕ) → open_line past ≡ [] → ended past ≡ all_lines past
+lines_without_last past none = sym (append-nil (ended past)) ∙ ap (λ l. ended past ++ unless_empty l) (sym none)

@@ -1,7 +1,6 @@
 -- A whole input and what is answered to it.
-use Rattle.std.specs.Prelude.{◌≡◌, ℕ, ◌≤◌, List, [], length, drop, Some, None, Option}
+use Rattle.std.specs.Prelude.{◌≡◌, ℕ, ◌≤◌, List, [], length, drop}
 use Rattle.std.specs.List.{flat_map}
-use Rattle.lines.specs.declared.line.Line.{Line}
 use Rattle.lines.specs.Hearing.{Heard, held}
 use Rattle.lines.specs.Splitting.{ended, open_line, all_lines}
 use Rattle.session.specs.Following.{Followed, HeardOne}
@@ -31,13 +30,8 @@ pub record Wrote (buffer filled : List ℕ) (n : ℕ) : Type 0 where
   pub within : n ≤ length buffer
   pub rest : drop n filled ≡ drop n buffer
 
--- a line was answered, and what is read of the next one stays
-pub record LineAnswered (line : Line) (before after : Transcript) (buffer filled : List ℕ) (n : ℕ) : Type 0 where
-  pub one : HeardOne before.session after.session (held line) buffer filled n
+-- the line that was read is answered, and is still there
+pub record LineAnswered (before after : Transcript) (buffer filled : List ℕ) (n : ℕ) : Type 0 where
+  pub one : HeardOne before.session after.session (held before.line) buffer filled n
   pub room : 1280 ≤ length buffer
-  pub next : after.line ≡ before.line
-
--- the line that is told was answered, or, where none is, nothing is written and nothing changed
-abbrev pub ToldAnswered : Option Line → Transcript → Transcript → List ℕ → List ℕ → ℕ → Type 0
-ToldAnswered None before after buffer filled n = (after ≡ before) × (filled ≡ buffer) × (n ≡ 0)
-ToldAnswered (Some line) before after buffer filled n = LineAnswered line before after buffer filled n
+  pub line : after.line ≡ before.line

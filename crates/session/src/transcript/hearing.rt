@@ -1,11 +1,12 @@
 //! How a session follows its input.
 
 ghost use Rattle.std.specs.Prelude.{ℕ, List, [], ◌∷◌, ◌++◌, take};
-ghost use Rattle.session.specs.Transcribing.{Finished, ToldAnswered, Transcribed, Wrote};
+ghost use Rattle.session.specs.Transcribing.{Finished, LineAnswered, Transcribed, Wrote};
 
 use super::Transcript;
 use crate::session::{ANSWER_ROOM, Session};
 use lines::line::Line;
+use lines::split::ends_line;
 
 /// The buffer for one answer, which has room for the longest.
 pub type Answer = [u8; ANSWER_ROOM];
@@ -27,8 +28,14 @@ impl Transcript {
         ensures transcribed { (past said : List ℕ) → Transcribed self.old past said → Transcribed self.new (past ++ (byte ∷ [])) (said ++ take result answer.new) }
         ensures wrote { Wrote answer.old answer.new result }
     {
-        let told = self.line.hear(byte);
-        self.answer(told, answer)
+        if ends_line(byte) {
+            let end = self.answer(answer);
+            self.line.clear();
+            end
+        } else {
+            self.line.push(byte);
+            0
+        }
     }
 
     /// The input is at its end. If a last line lacks its byte 10, the answer to it is written; gives how many bytes that are.
@@ -36,18 +43,18 @@ impl Transcript {
         ensures finished { (past said : List ℕ) → Transcribed self.old past said → Finished self.new past (said ++ take result answer.new) }
         ensures wrote { Wrote answer.old answer.new result }
     {
-        let told = self.line.finish();
+        if self.line.is_empty() {
+            return 0;
+        }
+        let end = self.answer(answer);
         self.line.clear();
-        self.answer(told, answer)
+        end
     }
 
-    /// Answers the line that is told, if one is.
-    fn answer(&mut self, told: Option<Line>, answer: &mut Answer) -> usize
-        ensures answered { ToldAnswered told self.old self.new answer.old answer.new result }
+    /// Answers the line that was read.
+    fn answer(&mut self, answer: &mut Answer) -> usize
+        ensures answered { LineAnswered self.old self.new answer.old answer.new result }
     {
-        match told {
-            Some(line) => self.session.hear(line.bytes(), answer).unwrap_or(0),
-            None => 0,
-        }
+        self.session.hear(self.line.bytes(), answer).unwrap_or(0)
     }
 }

@@ -1,16 +1,36 @@
-use Rattle.std.proofs.Common.{[], ◌++◌, take, ap, ◌∙◌, sym, subst}
-use Rattle.lines.specs.Hearing.{Heard}
-use Rattle.lines.specs.Splitting.{ended, open_line, all_lines}
-use Rattle.session.proofs.Transcribing.{told_followed, told_next}
+use Rattle.std.proofs.Common.{◌≡◌, [], ◌∷◌, ◌++◌, take, refl, ap, ◌∙◌, subst, append-nil, arith}
+use Rattle.std.proofs.lemmas.Bool.{false≢true}
+use Rattle.lines.specs.Hearing.{held}
+use Rattle.lines.specs.Splitting.{ended, open_line}
+use Rattle.session.specs.Following.{Followed}
+use Rattle.session.proofs.Transcribing.{followed_held, lines_with_last, lines_without_last, row_more}
 use Rattle.session.proofs.transcript.Transcript.finish.Goals as goal
 
-pub returns-clause-finished : goal.returns-clause-finished
-returns-clause-finished c = λ past said t.
-    let done = c.answer.ensures.answered in
-    let on = told_followed c.finish-told.result _ _ _ _ _ (open_line past) (ended past) (all_lines past) t.answers done (c.finish-told.ensures.tells past t.heard) t.followed in
+pub returns-then-is_empty : goal.returns-then-is_empty
+returns-then-is_empty c = record {
+  finished = λ past said f.
+      record {
+        heard = c.if-is_empty.ensures.nothing_held.0 refl;
+        answers = f.answers;
+        followed = subst (λ lines. Followed c.args.self.now.session lines f.answers) (lines_without_last past ((c.if-is_empty.ensures.nothing_heard (open_line past) f.heard).0 refl)) f.followed;
+        spoken = append-nil said ∙ f.spoken;
+      };
+  wrote = record { within = omega arith; rest = refl };
+}
+
+pub returns : goal.returns
+returns c =
+    let by = c.answer-end.ensures.answered in
+    let text = take c.answer-end.result c.answer-end.new.answer in
     record {
-      heard = subst (λ line. Heard line []) (sym (told_next c.finish-told.result _ _ _ _ _ done)) c.clear.ensures.heard;
-      answers = on.0;
-      followed = on.1.0;
-      spoken = ap (λ s. s ++ take c.answer.result c.answer.new.answer) t.spoken ∙ on.1.1;
+      finished = λ past said f.
+          let one = followed_held c.answer-end.new.self.session (ended past) (f.answers ++ (text ∷ [])) (held c.args.self.now.line) (open_line past) f.heard (by.one.followed (ended past) f.answers f.followed) in
+          let some : open_line past ≡ [] → ⊥ = λ none. false≢true ((c.if-is_empty.ensures.nothing_heard (open_line past) f.heard).1 none) in
+          record {
+            heard = c.clear.ensures.heard;
+            answers = f.answers ++ (text ∷ []);
+            followed = subst (λ lines. Followed c.answer-end.new.self.session lines (f.answers ++ (text ∷ []))) (lines_with_last past some) one;
+            spoken = ap (λ s. s ++ text) f.spoken ∙ row_more f.answers text;
+          };
+      wrote = record { within = omega (arith, by.one.within, by.room); rest = by.one.rest };
     }

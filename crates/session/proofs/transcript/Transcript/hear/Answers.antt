@@ -1,16 +1,34 @@
-use Rattle.std.proofs.Common.{[], ◌∷◌, ◌++◌, take, ap, ◌∙◌, sym, subst}
-use Rattle.lines.specs.Hearing.{Heard}
+use Rattle.std.proofs.Common.{[], ◌∷◌, ◌++◌, take, sym, refl, ap, ◌∙◌, subst, append-nil, arith}
+use Rattle.lines.specs.Hearing.{held}
 use Rattle.lines.specs.Splitting.{ended, open_line}
-use Rattle.session.proofs.Transcribing.{told_followed, told_next}
+use Rattle.session.specs.Following.{Followed}
+use Rattle.session.proofs.Transcribing.{followed_held, row_more}
 use Rattle.session.proofs.transcript.Transcript.hear.Goals as goal
 
-pub returns-clause-transcribed : goal.returns-clause-transcribed
-returns-clause-transcribed c = λ past said t.
-    let done = c.answer.ensures.answered in
-    let on = told_followed c.hear-told.result _ _ _ _ _ (open_line past) (ended past) (ended (past ++ (c.args.byte ∷ []))) t.answers done (c.hear-told.ensures.tells past t.heard) t.followed in
+pub returns-then-ends_line : goal.returns-then-ends_line
+returns-then-ends_line c =
+    let by = c.answer-end.ensures.answered in
+    let text = take c.answer-end.result c.answer-end.new.answer in
     record {
-      heard = subst (λ line. Heard line (open_line (past ++ (c.args.byte ∷ [])))) (sym (told_next c.hear-told.result _ _ _ _ _ done)) (c.hear-told.ensures.heard past t.heard);
-      answers = on.0;
-      followed = on.1.0;
-      spoken = ap (λ s. s ++ take c.answer.result c.answer.new.answer) t.spoken ∙ on.1.1;
+      transcribed = λ past said f.
+          let one = followed_held c.answer-end.new.self.session (ended past) (f.answers ++ (text ∷ [])) (held c.args.self.now.line) (open_line past) f.heard (by.one.followed (ended past) f.answers f.followed) in
+          record {
+            heard = c.clear.ensures.heard ∙ ap (take 81) (sym (c.if-ends_line.ensures.goes_on past));
+            answers = f.answers ++ (text ∷ []);
+            followed = subst (λ lines. Followed c.answer-end.new.self.session lines (f.answers ++ (text ∷ []))) (sym (c.if-ends_line.ensures.ends past)) one;
+            spoken = ap (λ s. s ++ text) f.spoken ∙ row_more f.answers text;
+          };
+      wrote = record { within = omega (arith, by.one.within, by.room); rest = by.one.rest };
     }
+
+pub returns-else-ends_line : goal.returns-else-ends_line
+returns-else-ends_line c = record {
+  transcribed = λ past said f.
+      record {
+        heard = c.push.ensures.heard (open_line past) f.heard ∙ ap (take 81) (sym (c.if-ends_line.ensures.goes_on past));
+        answers = f.answers;
+        followed = subst (λ lines. Followed c.args.self.now.session lines f.answers) (sym (c.if-ends_line.ensures.ends past ∙ append-nil (ended past))) f.followed;
+        spoken = append-nil said ∙ f.spoken;
+      };
+  wrote = record { within = omega arith; rest = refl };
+}
