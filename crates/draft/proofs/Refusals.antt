@@ -1,13 +1,14 @@
 -- When the book refuses, condition by condition. Assumes nothing.
-use Rattle.std.proofs.Common.{◌≡◌, ℕ, ◌<◌, ◌≤◌, leb, ◌⊎◌, [], ◌∷◌, length, ℤ, nat_abs, Some, None, Ok, Err, Option, ap, ◌∙◌, arith}
+use Rattle.std.proofs.Common.{◌≡◌, ℕ, ◌<◌, ◌≤◌, leb, [], ◌∷◌, length, ℤ, nat_abs, Some, None, Ok, Err, Option, ap, ◌∙◌, arith}
 use Rattle.std.proofs.lemmas.Bool.Decides.{nat_tests}
 use Rattle.draft.specs.declared.fault.DraftFault.{DraftFault}
 use Rattle.ratio.specs.Computed.{entry}
 use Rattle.ratio.specs.declared.ratio.Ratio.{Ratio}
 use Rattle.ratio.specs.declared.fault.RatioFault.{RatioFault}
 use Rattle.draft.specs.Book.{Book, refusal, candidates_of, absent, first_fault, entry_fault}
+use Rattle.draft.specs.Changes.{pair_fault}
 use Rattle.draft.specs.declared.call.Call.TheVariants.{Tone, Try, Strike, Bound, Level}
-use Rattle.draft.specs.declared.fault.DraftFault.TheVariants.{Entry, OutOfLimits, SameTone, NoTone, NoCandidate, TonesFull, CandidatesFull}
+use Rattle.draft.specs.declared.fault.DraftFault.TheVariants.{Entry, OutOfLimits, NoTone, NoCandidate, TonesFull, CandidatesFull}
 
 module _ (b : Book) where
   -- what is left to test of a candidate whose ratio is there
@@ -44,17 +45,8 @@ module _ (b : Book) where
   pub try_taken : (t n d : ℕ) (r : Ratio) → entry n d ≡ Ok r → t < length b.tones → length (candidates_of b t) < 8 → refusal b (Try t n d) ≡ None
   try_taken t n d r e h i = ap (λ x. entry_fault x (rest t)) e ∙ grind (arith, nat_tests)
 
-  pub bound_out : (t u x : ℕ) → 1073741824 < x → refusal b (Bound t u x) ≡ Some OutOfLimits
-  bound_out t u x h = grind (arith, nat_tests)
-
-  pub bound_same : (t u x : ℕ) → x ≤ 1073741824 → t ≡ u → refusal b (Bound t u x) ≡ Some SameTone
-  bound_same t u x h i = grind (arith, nat_tests)
-
-  pub bound_absent : (t u x : ℕ) → x ≤ 1073741824 → (t ≡ u → ⊥) → (length b.tones ≤ t) ⊎ (length b.tones ≤ u) → refusal b (Bound t u x) ≡ Some NoTone
-  bound_absent t u x h i j = grind (arith, nat_tests)
-
-  pub bound_taken : (t u x : ℕ) → x ≤ 1073741824 → (t ≡ u → ⊥) → t < length b.tones → u < length b.tones → refusal b (Bound t u x) ≡ None
-  bound_taken t u x h i j k = grind (arith, nat_tests)
+  pub bound_within : (t u x : ℕ) → x ≤ 1073741824 → refusal b (Bound t u x) ≡ pair_fault b t u
+  bound_within t u x h = grind (arith, nat_tests)
 
   pub level_out : (x : ℕ) → 1073741824 < x → refusal b (Level x) ≡ Some OutOfLimits
   level_out x h = grind (arith, nat_tests)

@@ -1,5 +1,6 @@
 -- When a draft holds a book.
-use Rattle.std.specs.Prelude.{◌≡◌, ℕ, ◌+◌, ◌-◌, ◌*◌, ◌/◌, ◌<◌, min, max, true, List, map, take, is_err, Result, ◌≢◌, slice_index}
+use Rattle.std.specs.Prelude.{◌≡◌, ℕ, ◌+◌, ◌-◌, ◌*◌, ◌/◌, ◌<◌, min, max, true, List, map, is_err, Result, ◌≢◌, slice_index}
+use Rattle.places.specs.Listed as places
 use Rattle.ratio.specs.declared.ratio.Ratio.{Ratio}
 use Rattle.draft.specs.Book.{Noted, Book, refusal, fed, answer}
 use Rattle.draft.specs.declared.call.Call.{Call}
@@ -9,7 +10,7 @@ use Rattle.draft.specs.declared.tone.Tone.{Tone}
 
 -- the candidates that a tone lists
 abbrev pub listed : Tone → List Ratio
-listed t = take t.count t.candidates
+listed t = places.listed t.candidates
 
 -- a tone of the draft as the book notes it
 abbrev pub noted : Tone → Noted
@@ -17,7 +18,7 @@ noted t = record { pitch = t.pitch; candidates = listed t }
 
 -- the tones that are entered
 abbrev pub entered_tones : Draft → List Tone
-entered_tones d = take d.count d.tones
+entered_tones d = places.listed d.tones
 
 -- where the bound of a pair stands, either way round: with the larger number j and the smaller i, at j(j - 1)/2 + i
 abbrev pub pair_place : ℕ → ℕ → ℕ

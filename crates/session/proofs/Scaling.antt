@@ -1,10 +1,11 @@
 -- What is read of a book for the line of a tone, and how the lines follow one another. Assumes nothing.
 use Rattle.std.proofs.Common.{◌≡◌, ℕ, zero, suc, ◌+◌, ◌^◌, ◌<◌, ◌≤◌, List, [], ◌∷◌, ◌++◌, map, length, get_or, take, ℤ, pos, ◌-ℤ◌, nat_abs, Some, None, codes, decimal, Option, unwrap_or, sym, refl, ap, ◌∙◌, append_assoc, arith, length-append, Bor, MatchOption}
 use Rattle.std.specs.Option.{option_map}
-use Rattle.std.proofs.lemmas.List.{get_or_past, length-map, length-take}
+use Rattle.std.proofs.lemmas.List.{get_or_past}
 use Rattle.std.specs.List.{flat_map, slice_get}
 use Rattle.draft.specs.Book.{Noted, Book, candidates_of}
-use Rattle.draft.specs.Held.{noted, book_of}
+use Rattle.draft.proofs.Holding.{held_count, held_book}
+use Rattle.draft.specs.Held.{book_of}
 use Rattle.draft.specs.declared.draft.Draft.{Draft}
 use Rattle.settling.proofs.Listed.{below_more, gathered_push}
 use Rattle.settling.specs.Settling.{below}
@@ -61,7 +62,7 @@ line_pieces r pitch above is =
 
 -- a draft has at most 32 tones
 pub few_held : (d : Draft) → length (book_of d).tones ≤ 32
-few_held d = omega (arith, length-map (take d.count d.tones) noted, length-take d.count d.tones, d.few)
+few_held d = omega (arith, held_count d (book_of d) (held_book d), d.tones.few)
 
 -- one more of the lines
 pub lines_more : (f : ℕ → List ℕ) (n : ℕ) → flat_map f (below n) ++ f n ≡ flat_map f (below (n + 1))

@@ -38,8 +38,8 @@ rows_past (n ∷ ns) (suc k) e = let r = rows_past ns k e in (r.0, omega (arith,
 pub no_row : (b : Book) (k : ℕ) → candidates_in b k ≡ None → (drop k (rows b) ≡ []) × (length b.tones ≤ k)
 no_row b k e = rows_past b.tones k e
 
-pub there : (d : Draft) (k : ℕ) (cs : List Ratio) → candidates_in (book_of d) k ≡ Some cs → (k < d.count) × (k < 32) × (length cs ≤ 8)
-there d k cs e = let r = read_there d k cs e in let few = d.few in (r.0, omega (arith, r.0), r.1)
+pub there : (d : Draft) (k : ℕ) (cs : List Ratio) → candidates_in (book_of d) k ≡ Some cs → (k < d.tones.count) × (k < 32) × (length cs ≤ 8)
+there d k cs e = let r = read_there d k cs e in let few = d.tones.few in (r.0, omega (arith, r.0), r.1)
 
 -- the first candidates of tone k are tried, from the start that is laid at the entry
 pub record Trying {V : Type 0} (dist : Ratio → Ratio → ℕ) (c : Costing V) (d : Draft) (allowance k : ℕ) (v : V) (cs : List Ratio) (number : ℕ) (entry now : Search V) (stack₀ stack : List V) (room₀ room : ℕ) : Type 0 where
@@ -72,7 +72,7 @@ module _ {V : Type 0} (dist : Ratio → Ratio → ℕ) (c : Costing V) (d : Draf
     finds = λ b h. sym (explore_beaten (problem dist b) c (drop k (rows b)) (take k s.laid) (take k s.numbers) v (found (length b.tones) s) (beaten_some s best e (length b.tones) ∙ more));
   }
 
-  pub went_end : (s : Search V) → ((n : ℕ) → beaten c (seen n s.best s.sheet) v ≡ false) → ((b : Book) → Holds d b → candidates_in b k ≡ None) → s.trials ≤ allowance → k ≤ d.count
+  pub went_end : (s : Search V) → ((n : ℕ) → beaten c (seen n s.best s.sheet) v ≡ false) → ((b : Book) → Holds d b → candidates_in b k ≡ None) → s.trials ≤ allowance → k ≤ d.tones.count
       → Went dist c d allowance k v s (record { laid = s.laid; numbers = s.numbers; best = Some v; sheet = s.numbers; trials = s.trials })
   went_end s unbeaten none within few = record {
     laid = refl;
@@ -179,14 +179,14 @@ module _ {V : Type 0} (dist : Ratio → Ratio → ℕ) (c : Costing V) (d : Draf
 -- ---- one pair
 
 -- the bound that is read is the book's
-pub bound_read : (d : Draft) (b : Book) → Holds d b → (e k x : ℕ) → e < k → k < d.count → Some x ≡ bound_in b e k → x ≡ b.bound e k
+pub bound_read : (d : Draft) (b : Book) → Holds d b → (e k x : ℕ) → e < k → k < d.tones.count → Some x ≡ bound_in b e k → x ≡ b.bound e k
 bound_read d b h e k x less there is =
     let same = held_count d b h in
     let apart : e ≡ k → ⊥ = λ same. omega arith in
     let at = bound_there b e k apart (omega arith) (omega arith) in
     cc
 
-pub bound_some : (d : Draft) (b : Book) → Holds d b → (e k : ℕ) → e < k → k < d.count → ◌≡◌ {A = Option ℕ} None (bound_in b e k) → ⊥
+pub bound_some : (d : Draft) (b : Book) → Holds d b → (e k : ℕ) → e < k → k < d.tones.count → ◌≡◌ {A = Option ℕ} None (bound_in b e k) → ⊥
 bound_some d b h e k less there is =
     let same = held_count d b h in
     let apart : e ≡ k → ⊥ = λ same. omega arith in

@@ -21,7 +21,7 @@ use Rattle.settling.proofs.Explored.{nothing, Settles, explored}
 well_put : (b : Book) (places allowance : ℕ) → allowance ≤ 1000000000 → 33 ≤ places → 0 < length b.tones → ill_put b places allowance ≡ None
 well_put b places allowance small wide some = grind (arith, nat_tests)
 
-module _ {V : Type 0} (dist : Ratio → Ratio → ℕ) (c : Costing V) (law : Lawful c) (d : Draft) (allowance places : ℕ) (small : allowance ≤ 1000000000) (wide : 33 ≤ places) (some : 0 < d.count)
+module _ {V : Type 0} (dist : Ratio → Ratio → ℕ) (c : Costing V) (law : Lawful c) (d : Draft) (allowance places : ℕ) (small : allowance ≤ 1000000000) (wide : 33 ≤ places) (some : 0 < d.tones.count)
     (start : Search V) (none : start.best ≡ None) (begins : start.trials ≡ 0) where
   by_well_put : (b : Book) → Holds d b → (r : Result (Settled V) SearchFault) (before after : List ℕ) → WellSettled dist c b allowance r before after → Settling dist c b allowance places r before after
   by_well_put b h r before after done =

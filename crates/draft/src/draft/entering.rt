@@ -1,13 +1,15 @@
 //! What is entered into a draft.
 
-ghost use Rattle.std.specs.Prelude.{◌≡◌, ◌<◌, ◌≢◌};
-ghost use Rattle.draft.specs.Book.{new_book};
+ghost use Rattle.std.specs.Prelude.{◌≡◌, ◌<◌, ◌≢◌, Some, None, IfOk, MatchResult};
+ghost use Rattle.draft.specs.Book.{Book, new_book};
+ghost use Rattle.draft.specs.Changes.{pair_fault};
 ghost use Rattle.draft.specs.Held.{Holds, ByBook, pair_place};
 ghost use Rattle.draft.specs.declared.call.Call.TheVariants.{Tone as ToneCall, Try, Strike, Bound, Level};
 
-use super::{Draft, FARTHEST_PITCH, LARGEST_BOUND, MOST_TONES};
+use super::{Draft, FARTHEST_PITCH, LARGEST_BOUND, PAIRS};
 use crate::fault::DraftFault;
 use crate::tone::Tone;
+use places::Places;
 use ratio::ratio::Ratio;
 
 impl Draft {
@@ -16,9 +18,8 @@ impl Draft {
         ensures holds { Holds result new_book }
     {
         Draft {
-            tones: [Tone::new(0); 32],
-            count: 0,
-            bounds: [LARGEST_BOUND as u32; 496],
+            tones: Places::empty(Tone::new(0)),
+            bounds: [LARGEST_BOUND as u32; PAIRS],
         }
     }
 
@@ -31,12 +32,9 @@ impl Draft {
         if pitch < -FARTHEST_PITCH || pitch > FARTHEST_PITCH {
             return Err(DraftFault::OutOfLimits);
         }
-        if self.count == MOST_TONES {
-            return Err(DraftFault::TonesFull);
-        }
-        self.tones[self.count] = Tone::new(pitch);
-        self.count += 1;
-        Ok(())
+        self.tones
+            .push(Tone::new(pitch))
+            .map_err(|_| DraftFault::TonesFull)
     }
 
     /// One candidate more for a tone, after its others: the ratio `numerator / denominator`.
@@ -51,12 +49,9 @@ impl Draft {
         ensures by_book { ByBook self.old self.new (Try tone numerator denominator) result }
     {
         let ratio = Ratio::new(numerator, denominator)?;
-        if tone >= self.count {
-            return Err(DraftFault::NoTone);
-        }
-        let mut changed = self.tones[tone];
+        let mut changed = self.tones.get(tone).ok_or(DraftFault::NoTone)?;
         changed.add(ratio)?;
-        self.tones[tone] = changed;
+        self.tones.replace(tone, changed);
         Ok(())
     }
 
@@ -66,12 +61,9 @@ impl Draft {
     pub fn strike(&mut self, tone: usize, candidate: usize) -> Result<(), DraftFault>
         ensures by_book { ByBook self.old self.new (Strike tone candidate) result }
     {
-        if tone >= self.count {
-            return Err(DraftFault::NoTone);
-        }
-        let mut changed = self.tones[tone];
+        let mut changed = self.tones.get(tone).ok_or(DraftFault::NoTone)?;
         changed.strike(candidate)?;
-        self.tones[tone] = changed;
+        self.tones.replace(tone, changed);
         Ok(())
     }
 
@@ -84,13 +76,8 @@ impl Draft {
         if bound > LARGEST_BOUND {
             return Err(DraftFault::OutOfLimits);
         }
-        if tone == other {
-            return Err(DraftFault::SameTone);
-        }
-        if tone >= self.count || other >= self.count {
-            return Err(DraftFault::NoTone);
-        }
-        self.bounds[place_of(tone, other)] = bound as u32;
+        let place = self.place_of(tone, other)?;
+        self.bounds[place] = bound as u32;
         Ok(())
     }
 
@@ -103,18 +90,26 @@ impl Draft {
         if bound > LARGEST_BOUND {
             return Err(DraftFault::OutOfLimits);
         }
-        self.bounds = [bound as u32; 496];
+        self.bounds = [bound as u32; PAIRS];
         Ok(())
     }
-}
 
-/// Where the bound of a pair of the 32 places stands, whichever way round.
-pub(crate) fn place_of(tone: usize, other: usize) -> usize
-    requires { (tone < 32) × (other < 32) × (tone ≢ other) }
-    ensures place { result ≡ pair_place tone other }
-    ensures within { result < 496 }
-{
-    let high = tone.max(other);
-    let low = tone.min(other);
-    high * (high - 1) / 2 + low
+    /// Where the bound of a pair of tones stands, whichever way round.
+    ///
+    /// Refuses a tone named twice, then a tone that is not there.
+    #[tactic(auto, using(crate::proofs::Pairs::place_within))]
+    pub(crate) fn place_of(&self, tone: usize, other: usize) -> Result<usize, DraftFault>
+        ensures by_book { (b : Book) → Holds self.now b → MatchResult result (λ place. (pair_fault b tone other ≡ None) × (place ≡ pair_place tone other)) (λ fault. pair_fault b tone other ≡ Some fault) }
+        ensures apart { IfOk result (λ place. (tone < 32) × (other < 32) × (tone ≢ other) × (place < 496)) }
+    {
+        if tone == other {
+            return Err(DraftFault::SameTone);
+        }
+        if tone >= self.tones.len() || other >= self.tones.len() {
+            return Err(DraftFault::NoTone);
+        }
+        let high = tone.max(other);
+        let low = tone.min(other);
+        Ok(high * (high - 1) / 2 + low)
+    }
 }

@@ -7,7 +7,6 @@ ghost use Rattle.draft.specs.Reading.{pitch_in, candidates_in, bound_in};
 ghost use Rattle.std.specs.Option.{option_map};
 
 use super::Draft;
-use super::entering::place_of;
 use ratio::ratio::Ratio;
 
 impl Draft {
@@ -16,17 +15,14 @@ impl Draft {
         ensures by_book { (b : Book) → Holds self.now b → result ≡ length b.tones }
         ensures some_book { (b : Book) × Holds self.now b }
     {
-        self.count
+        self.tones.len()
     }
 
     /// The pitch of a tone, in thousandths of a cent, or `None` if there is no such tone.
     pub fn pitch(&self, tone: usize) -> Option<i32>
         ensures by_book { (b : Book) → Holds self.now b → result ≡ pitch_in b tone }
     {
-        if tone >= self.count {
-            return None;
-        }
-        let held = &self.tones[tone];
+        let held = self.tones.get(tone)?;
         Some(held.pitch())
     }
 
@@ -34,10 +30,7 @@ impl Draft {
     pub fn candidates(&self, tone: usize) -> Option<&[Ratio]>
         ensures by_book { (b : Book) → Holds self.now b → option_map (λ x. x.now) result ≡ candidates_in b tone }
     {
-        if tone >= self.count {
-            return None;
-        }
-        let held = &self.tones[tone];
+        let held = self.tones.as_slice().get(tone)?;
         Some(held.candidates())
     }
 
@@ -45,9 +38,9 @@ impl Draft {
     pub fn bound_of(&self, tone: usize, other: usize) -> Option<u32>
         ensures by_book { (b : Book) → Holds self.now b → result ≡ bound_in b tone other }
     {
-        if tone == other || tone >= self.count || other >= self.count {
+        let Ok(place) = self.place_of(tone, other) else {
             return None;
-        }
-        Some(self.bounds[place_of(tone, other)])
+        };
+        Some(self.bounds[place])
     }
 }

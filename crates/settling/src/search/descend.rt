@@ -23,7 +23,7 @@ pub(crate) fn descend<M: Measure, C: Costing>(
     allowance: u64,
     k: usize,
 ) -> Result<(), Spent>
-    requires { (length stack.old.values ≡ k + 1) × (33 ≤ room stack.old) × (k ≤ draft.now.count) × (search.old.trials ≤ allowance) }
+    requires { (length stack.old.values ≡ k + 1) × (33 ≤ room stack.old) × (k ≤ draft.now.tones.count) × (search.old.trials ≤ allowance) }
     ensures stacked { OnOk result ((stack.new.values ≡ stack.old.values) × (room stack.new ≡ room stack.old)) }
     ensures searched { (rest : List C.Value) (v : C.Value) → stack.old.values ≡ rest ++ (v ∷ []) → MatchResult result (λ _. Went (M.Measure.dist measure.now) (meant C.Costing) draft.now allowance k v search.old search.new) (λ _. Overspent (M.Measure.dist measure.now) (meant C.Costing) draft.now allowance k v search.old) }
 {

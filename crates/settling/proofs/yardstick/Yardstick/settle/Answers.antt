@@ -35,7 +35,7 @@ returns-in_err-descend g c =
     let allowance = c.args.allowance in
     let places = length c.args.stack.now in
     let sheet = c.args.sheet.now in
-    let some : 0 < d.count = omega (arith, held_count d (book_of d) (held_book d), c.tones-tones.ensures.by_book (book_of d) (held_book d), c.if-tones-eq0.false) in
+    let some : 0 < d.tones.count = omega (arith, held_count d (book_of d) (held_book d), c.tones-tones.ensures.by_book (book_of d) (held_book d), c.if-tones-eq0.false) in
     let size = c.over-partial.ensures.size in
     let empty = c.over-partial.ensures.empty in
     let on = pushed c.push.result (room c.over-partial.result) c.nothing.result c.over-partial.result.values c.push.new.self.values c.push.ensures.put (omega (arith, ap length empty, c.if-stack-lt-STACK_PLACES.false)) in
@@ -52,7 +52,7 @@ returns-in_default g c =
     let dist = g.M.Measure.dist c.args.self.now.measure.now in
     let cst = meant C in
     let d = c.args.draft.now in
-    let some : 0 < d.count = omega (arith, held_count d (book_of d) (held_book d), c.tones-tones.ensures.by_book (book_of d) (held_book d), c.if-tones-eq0.false) in
+    let some : 0 < d.tones.count = omega (arith, held_count d (book_of d) (held_book d), c.tones-tones.ensures.by_book (book_of d) (held_book d), c.if-tones-eq0.false) in
     let empty = c.over-partial.ensures.empty in
     let size = c.over-partial.ensures.size in
     let on = pushed c.push.result (room c.over-partial.result) c.nothing.result c.over-partial.result.values c.push.new.self.values c.push.ensures.put (omega (arith, ap length empty, c.if-stack-lt-STACK_PLACES.false)) in
@@ -64,7 +64,7 @@ returns-in_default g c =
 pub slice_bounds-copy_from_slice-end : goal.slice_bounds-copy_from_slice-end
 slice_bounds-copy_from_slice-end g c =
     let d = c.args.draft.now in
-    let few = d.few in
+    let few = d.tones.few in
     omega (arith, held_count d (book_of d) (held_book d), c.tones-tones.ensures.by_book (book_of d) (held_book d))
 
 pub returns : goal.returns
@@ -74,8 +74,8 @@ returns g c =
     let cst = meant C in
     let d = c.args.draft.now in
     let count = c.tones-tones.ensures.by_book in
-    let few = d.few in
-    let some : 0 < d.count = omega (arith, held_count d (book_of d) (held_book d), count (book_of d) (held_book d), c.if-tones-eq0.false) in
+    let few = d.tones.few in
+    let some : 0 < d.tones.count = omega (arith, held_count d (book_of d) (held_book d), count (book_of d) (held_book d), c.if-tones-eq0.false) in
     let empty = c.over-partial.ensures.empty in
     let size = c.over-partial.ensures.size in
     let on = pushed c.push.result (room c.over-partial.result) c.nothing.result c.over-partial.result.values c.push.new.self.values c.push.ensures.put (omega (arith, ap length empty, c.if-stack-lt-STACK_PLACES.false)) in
