@@ -10,7 +10,7 @@ use super::{Best, Laid, Quest, Search, Spent};
 use costing::costing::Costing;
 use measure::measure::Measure;
 
-impl<'y, 'a, 'd, M: Measure, C: Costing> Quest<'y, 'a, 'd, M, C> {
+impl<M: Measure, C: Costing> Quest<'_, '_, '_, M, C> {
     /// Searches all that extends the start of the first `k` tones, whose cost is on top of the stack, in list order.
     ///
     /// A start that costs no less than the best so far is left at once. Every candidate that is looked at is one trial.
@@ -42,6 +42,7 @@ impl<'y, 'a, 'd, M: Measure, C: Costing> Quest<'y, 'a, 'd, M, C> {
             let mut sum = cost;
             for (earlier, laid) in search.laid[..k].iter().enumerate() {
                 let apart = measure.distance(&laid.ratio, ratio);
+                // stays (rule): nested loops, and the first broken bound leaves the inner one
                 let Some(bound) = self.draft.bound_of(earlier, k) else {
                     continue 'candidates;
                 };

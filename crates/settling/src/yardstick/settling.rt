@@ -16,7 +16,7 @@ use draft::draft::Draft;
 use measure::measure::Measure;
 use ratio::ratio::Ratio;
 
-impl<'a, M: Measure, C: Costing> Yardstick<'a, M, C> {
+impl<M: Measure, C: Costing> Yardstick<'_, M, C> {
     /// The best scale of the draft: one candidate for each tone that keeps all bounds and costs least; of equals the first
     /// in list order. The sheet's first places then hold the candidate numbers.
     ///
