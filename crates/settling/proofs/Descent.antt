@@ -1,20 +1,23 @@
 -- The steps of the search in the code, against the search as a function.
-use Rattle.std.proofs.Common.{◌≡◌, ℕ, zero, suc, ◌+◌, ◌<◌, ◌≤◌, true, false, List, [], ◌∷◌, ◌++◌, map, length, get_or, take, drop, set, Some, None, Ok, Err, Result, fold, Option, sym, refl, ap, ◌∙◌, subst, arith}
-use Rattle.costing.specs.Stacks.{PutOn}
+use Rattle.std.proofs.Common.{◌≡◌, ℕ, zero, suc, ◌+◌, ◌<◌, ◌≤◌, true, false, List, [], ◌∷◌, ◌++◌, map, length, get_or, take, drop, set, Some, None, Ok, Err, IsOk, Result, fold, Option, sym, refl, ap, ◌∙◌, subst, arith}
+use Rattle.costing.specs.Stacks.{Held, room, PutOn, TakenOff}
+use Rattle.costing.proofs.Stacked.{taken_put}
 use Rattle.std.specs.Option.{option_map}
 use Rattle.std.specs.List.{slice_get}
-use Rattle.std.proofs.lemmas.List.{drop_all, take-take, take-set, take_more_set, length-take-le, get_or-take, get_or_default}
+use Rattle.std.proofs.lemmas.List.{drop_all, take-take, take-set, take_more_set, length-take-le, take-map, map-append, length-map}
 use Rattle.draft.specs.Book.{Noted, Book}
-use Rattle.draft.proofs.Holding.{held_count, read_there}
-use Rattle.draft.specs.Held.{Holds, book_of}
+use Rattle.draft.proofs.Holding.{entered_count, held_length, read_there}
+use Rattle.draft.specs.Held.{entered_tones, Holds, book_of}
 use Rattle.draft.specs.Reading.{candidates_in, bound_in}
 use Rattle.draft.proofs.Reading.{bound_there}
 use Rattle.draft.specs.declared.draft.Draft.{Draft}
 use Rattle.ratio.specs.declared.ratio.Ratio.{Ratio}
 use Rattle.settling.specs.Explore.{counted, beaten, numbered, row, explore, step}
 use Rattle.settling.specs.Posed.{rows, problem}
-use Rattle.settling.specs.Searching.{seen, found, searched, Went, Overspent}
+use Rattle.settling.specs.Searching.{ratios, numbers, seen, found, searched, Went, Overspent}
 use Rattle.settling.specs.Settling.{Costing}
+use Rattle.settling.specs.declared.search.Best.{Best}
+use Rattle.settling.specs.declared.search.Laid.{Laid}
 use Rattle.settling.specs.declared.search.Search.{Search}
 use Rattle.settling.proofs.Explore.{explore_beaten, explore_end}
 use Rattle.settling.proofs.Steps.{stepped_all, stepped_none, stepped_some, spent_here, spent_below}
@@ -38,19 +41,26 @@ rows_past (n ∷ ns) (suc k) e = let r = rows_past ns k e in (r.0, omega (arith,
 pub no_row : (b : Book) (k : ℕ) → candidates_in b k ≡ None → (drop k (rows b) ≡ []) × (length b.tones ≤ k)
 no_row b k e = rows_past b.tones k e
 
-pub there : (d : Draft) (k : ℕ) (cs : List Ratio) → candidates_in (book_of d) k ≡ Some cs → (k < d.tones.count) × (k < 32) × (length cs ≤ 8)
-there d k cs e = let r = read_there d k cs e in let few = d.tones.few in (r.0, omega (arith, r.0), r.1)
+pub few_tones : (d : Draft) → length (entered_tones d) ≤ 32
+few_tones d =
+    let few = d.tones.few in
+    omega (arith, entered_count d)
+
+pub there : (d : Draft) (k : ℕ) (cs : List Ratio) → candidates_in (book_of d) k ≡ Some cs → (k < length (entered_tones d)) × (k < 32) × (length cs ≤ 8)
+there d k cs e =
+    let r = read_there d k cs e in
+    let few = d.tones.few in
+    (omega (arith, r.0, entered_count d), omega (arith, r.0), r.1)
 
 -- the first candidates of tone k are tried, from the start that is laid at the entry
-pub record Trying {V : Type 0} (dist : Ratio → Ratio → ℕ) (c : Costing V) (d : Draft) (allowance k : ℕ) (v : V) (cs : List Ratio) (number : ℕ) (entry now : Search V) (stack₀ stack : List V) (room₀ room : ℕ) : Type 0 where
+pub record Trying {V : Type 0} (dist : Ratio → Ratio → ℕ) (c : Costing V) (d : Draft) (allowance k : ℕ) (v : V) (cs : List Ratio) (number : ℕ) (entry now : Search V) : Type 0 where
   pub laid : take k now.laid ≡ take k entry.laid
-  pub numbers : take k now.numbers ≡ take k entry.numbers
+  pub costs : now.costs.values ≡ entry.costs.values
+  pub size : room now.costs ≡ room entry.costs
   pub within : now.trials ≤ allowance
-  pub stacked : stack ≡ stack₀
-  pub size : room ≡ room₀
-  pub unbeaten : (n : ℕ) → beaten c (seen n entry.best entry.sheet) v ≡ false
+  pub unbeaten : (n : ℕ) → beaten c (seen n entry.best) v ≡ false
   pub finds : (b : Book) → Holds d b
-      → found (length b.tones) now ≡ fold (step (problem dist b) c (drop (k + 1) (rows b)) (take k entry.laid) (take k entry.numbers) v) (found (length b.tones) entry) (take number (numbered 0 cs))
+      → found (length b.tones) now ≡ fold (step (problem dist b) c (drop (k + 1) (rows b)) (ratios (take k entry.laid)) (numbers (take k entry.laid)) v) (found (length b.tones) entry) (take number (numbered 0 cs))
 
 shorter : {A : Type 0} (k : ℕ) (xs ys : List A) → take (k + 1) xs ≡ take (k + 1) ys → take k xs ≡ take k ys
 shorter k xs ys e = sym (take-take k (k + 1) xs (omega arith)) ∙ (ap (take k) e ∙ take-take k (k + 1) ys (omega arith))
@@ -58,148 +68,190 @@ shorter k xs ys e = sym (take-take k (k + 1) xs (omega arith)) ∙ (ap (take k) 
 module _ {V : Type 0} (dist : Ratio → Ratio → ℕ) (c : Costing V) (d : Draft) (allowance k : ℕ) (v : V) where
   -- ---- a start that is left at once, and one with every tone laid
 
-  pub beaten_some : (s : Search V) (best : V) → s.best ≡ Some best → (n : ℕ) → beaten c (seen n s.best s.sheet) v ≡ c.no_more best v
-  beaten_some s best e n = ap (λ o. beaten c (seen n o s.sheet) v) e
+  pub beaten_some : (s : Search V) (best : Best V) → s.best ≡ Some best → (n : ℕ) → beaten c (seen n s.best) v ≡ c.no_more best.cost v
+  beaten_some s best e n = ap (λ o. beaten c (seen n o) v) e
 
-  pub beaten_none : (s : Search V) → s.best ≡ None → (n : ℕ) → beaten c (seen n s.best s.sheet) v ≡ false
-  beaten_none s e n = ap (λ o. beaten c (seen n o s.sheet) v) e
+  pub beaten_none : (s : Search V) → s.best ≡ None → (n : ℕ) → beaten c (seen n s.best) v ≡ false
+  beaten_none s e n = ap (λ o. beaten c (seen n o) v) e
 
-  pub went_beaten : (s : Search V) (best : V) → s.best ≡ Some best → c.no_more best v ≡ true → s.trials ≤ allowance → Went dist c d allowance k v s s
+  pub went_beaten : (s : Search V) (best : Best V) → s.best ≡ Some best → c.no_more best.cost v ≡ true → s.trials ≤ allowance → Went dist c d allowance k v s s
   went_beaten s best e more within = record {
     laid = refl;
-    numbers = refl;
+    costs = refl;
+    size = refl;
     within = within;
-    finds = λ b h. sym (explore_beaten (problem dist b) c (drop k (rows b)) (take k s.laid) (take k s.numbers) v (found (length b.tones) s) (beaten_some s best e (length b.tones) ∙ more));
+    finds = λ b h. sym (explore_beaten (problem dist b) c (drop k (rows b)) (ratios (take k s.laid)) (numbers (take k s.laid)) v (found (length b.tones) s) (beaten_some s best e (length b.tones) ∙ more));
   }
 
-  pub went_end : (s : Search V) → ((n : ℕ) → beaten c (seen n s.best s.sheet) v ≡ false) → ((b : Book) → Holds d b → candidates_in b k ≡ None) → s.trials ≤ allowance → k ≤ d.tones.count
-      → Went dist c d allowance k v s (record { laid = s.laid; numbers = s.numbers; best = Some v; sheet = s.numbers; trials = s.trials })
-  went_end s unbeaten none within few = record {
-    laid = refl;
-    numbers = refl;
-    within = within;
+  pub went_end : (s s' : Search V) (sheet : List ℕ) → sheet ≡ numbers s.laid → s'.laid ≡ s.laid → s'.costs ≡ s.costs → s'.best ≡ Some (record { cost = v; sheet = sheet }) → s'.trials ≡ s.trials
+      → ((n : ℕ) → beaten c (seen n s.best) v ≡ false) → ((b : Book) → Holds d b → candidates_in b k ≡ None) → s.trials ≤ allowance → k ≤ length (entered_tones d) → Went dist c d allowance k v s s'
+  went_end s s' sheet written laid costs best trials unbeaten none within few = record {
+    laid = ap (take k) laid;
+    costs = ap (λ (h : Held V). h.values) costs;
+    size = ap room costs;
+    within = omega arith;
     finds = λ b h.
         let n : ℕ = length b.tones in
         let past = no_row b k (none b h) in
-        let same : n ≡ k = omega (arith, past.1, held_count d b h) in
-        let end = explore_end (problem dist b) c (take k s.laid) (take k s.numbers) v (found n s) (unbeaten n) in
-        let here = ap (λ rest. explore (problem dist b) c rest (take k s.laid) (take k s.numbers) v (found n s)) past.0 in
-        ap (λ m. record { best = Some (v, take m s.numbers); trials = s.trials }) same ∙ (sym end ∙ sym here);
+        let same : n ≡ k = omega (arith, past.1, held_length d b h) in
+        let front : take n sheet ≡ numbers (take k s.laid) = ap (take n) written ∙ (ap (λ m. take m (numbers s.laid)) same ∙ take-map (λ (l : Laid). l.number) k s.laid) in
+        let end = explore_end (problem dist b) c (ratios (take k s.laid)) (numbers (take k s.laid)) v (found n s) (unbeaten n) in
+        let here = ap (λ rest. explore (problem dist b) c rest (ratios (take k s.laid)) (numbers (take k s.laid)) v (found n s)) past.0 in
+        let is : found n s' ≡ record { best = Some (v, numbers (take k s.laid)); trials = s.trials } = λ i. record { best = (ap (seen n) best ∙ ap (λ ns. Some (v, ns)) front) i; trials = trials i } in
+        is ∙ (sym end ∙ sym here);
   }
 
   -- ---- the candidates of the next tone, one after another
 
-  module _ (cs : List Ratio) (read : (b : Book) → Holds d b → candidates_in b k ≡ Some cs) (entry : Search V) (stack₀ : List V) (room₀ : ℕ) where
-    pub trying_start : ((n : ℕ) → beaten c (seen n entry.best entry.sheet) v ≡ false) → entry.trials ≤ allowance → Trying dist c d allowance k v cs 0 entry entry stack₀ stack₀ room₀ room₀
-    trying_start unbeaten within = record { laid = refl; numbers = refl; within = within; stacked = refl; size = refl; unbeaten = unbeaten; finds = λ b h. refl }
+  module _ (cs : List Ratio) (read : (b : Book) → Holds d b → candidates_in b k ≡ Some cs) (entry : Search V) where
+    pub trying_start : ((n : ℕ) → beaten c (seen n entry.best) v ≡ false) → entry.trials ≤ allowance → Trying dist c d allowance k v cs 0 entry entry
+    trying_start unbeaten within = record { laid = refl; costs = refl; size = refl; within = within; unbeaten = unbeaten; finds = λ b h. refl }
 
     -- the search of the whole row, as the search below the start
-    whole : (b : Book) → Holds d b → searched dist c b k v entry ≡ explore (problem dist b) c (cs ∷ drop (k + 1) (rows b)) (take k entry.laid) (take k entry.numbers) v (found (length b.tones) entry)
-    whole b h = ap (λ rest. explore (problem dist b) c rest (take k entry.laid) (take k entry.numbers) v (found (length b.tones) entry)) (next_row b k cs (read b h))
+    whole : (b : Book) → Holds d b → searched dist c b k v entry ≡ explore (problem dist b) c (cs ∷ drop (k + 1) (rows b)) (ratios (take k entry.laid)) (numbers (take k entry.laid)) v (found (length b.tones) entry)
+    whole b h = ap (λ rest. explore (problem dist b) c rest (ratios (take k entry.laid)) (numbers (take k entry.laid)) v (found (length b.tones) entry)) (next_row b k cs (read b h))
 
-    module _ (number : ℕ) (s : Search V) (stack : List V) (room : ℕ) (trying : Trying dist c d allowance k v cs number entry s stack₀ stack room₀ room) where
+    module _ (number : ℕ) (s : Search V) (trying : Trying dist c d allowance k v cs number entry s) where
       pub trying_all : length cs ≤ number → Went dist c d allowance k v entry s
       trying_all over = record {
         laid = trying.laid;
-        numbers = trying.numbers;
+        costs = trying.costs;
+        size = trying.size;
         within = trying.within;
         finds = λ b h.
             let n : ℕ = length b.tones in
             trying.finds b h
-            ∙ (stepped_all (problem dist b) c (drop (k + 1) (rows b)) (take k entry.laid) (take k entry.numbers) v (found n entry) cs number over (trying.unbeaten n) ∙ sym (whole b h));
+            ∙ (stepped_all (problem dist b) c (drop (k + 1) (rows b)) (ratios (take k entry.laid)) (numbers (take k entry.laid)) v (found n entry) cs number over (trying.unbeaten n) ∙ sym (whole b h));
       }
 
       module _ (x : Ratio) (listed : number < length cs) (is : x ≡ get_or cs number x) where
         pub spent_now : s.trials ≡ allowance → Overspent dist c d allowance k v entry
-        spent_now full b h =
-            let n : ℕ = length b.tones in
-            let over = spent_here (problem dist b) c (drop (k + 1) (rows b)) (take k entry.laid) (take k entry.numbers) v (found n entry) (found n s) cs number allowance x listed is (trying.finds b h) (trying.unbeaten n) (omega arith) in
-            subst (λ f. allowance < f.trials) (sym (whole b h)) over
+        spent_now full = record {
+          over = λ b h.
+              let n : ℕ = length b.tones in
+              let past = spent_here (problem dist b) c (drop (k + 1) (rows b)) (ratios (take k entry.laid)) (numbers (take k entry.laid)) v (found n entry) (found n s) cs number allowance x listed is (trying.finds b h) (trying.unbeaten n) (omega arith) in
+              subst (λ f. allowance < f.trials) (sym (whole b h)) past;
+        }
 
         module _ (long : k ≤ length s.laid) where
           -- a row of pairs from the ratios that are laid
-          laid_row : (b : Book) (o : Option V) → row (problem dist b) c k x 0 (take k s.laid) v ≡ o
-              → row (problem dist b) c (length (take k entry.laid)) x 0 (take k entry.laid) v ≡ o
+          laid_row : (b : Book) (o : Option V) → row (problem dist b) c k x 0 (ratios (take k s.laid)) v ≡ o
+              → row (problem dist b) c (length (ratios (take k entry.laid))) x 0 (ratios (take k entry.laid)) v ≡ o
           laid_row b o e =
-              let front = trying.laid in
-              let size : length (take k entry.laid) ≡ k = ap length (sym front) ∙ length-take-le k s.laid long in
-              ap (λ m. row (problem dist b) c m x 0 (take k entry.laid) v) size ∙ (ap (λ xs. row (problem dist b) c k x 0 xs v) (sym front) ∙ e)
+              let front = ap ratios trying.laid in
+              let size : length (ratios (take k entry.laid)) ≡ k = ap length (sym front) ∙ (length-map (take k s.laid) (λ (l : Laid). l.ratio) ∙ length-take-le k s.laid long) in
+              ap (λ m. row (problem dist b) c m x 0 (ratios (take k entry.laid)) v) size ∙ (ap (λ xs. row (problem dist b) c k x 0 xs v) (sym front) ∙ e)
 
-          pub trying_broken : (s' : Search V) → s'.laid ≡ s.laid → s'.numbers ≡ s.numbers → s'.best ≡ s.best → s'.sheet ≡ s.sheet → s'.trials ≡ s.trials + 1 → s.trials < allowance
-              → ((b : Book) → Holds d b → row (problem dist b) c k x 0 (take k s.laid) v ≡ None) → Trying dist c d allowance k v cs (number + 1) entry s' stack₀ stack room₀ room
-          trying_broken s' laid numbers best sheet trials room_left none = record {
+          pub trying_broken : (s' : Search V) → s'.laid ≡ s.laid → s'.costs ≡ s.costs → s'.best ≡ s.best → s'.trials ≡ s.trials + 1 → s.trials < allowance
+              → ((b : Book) → Holds d b → row (problem dist b) c k x 0 (ratios (take k s.laid)) v ≡ None) → Trying dist c d allowance k v cs (number + 1) entry s'
+          trying_broken s' laid costs best trials room_left none = record {
             laid = ap (take k) laid ∙ trying.laid;
-            numbers = ap (take k) numbers ∙ trying.numbers;
+            costs = ap (λ (h : Held V). h.values) costs ∙ trying.costs;
+            size = ap room costs ∙ trying.size;
             within = omega arith;
-            stacked = trying.stacked;
-            size = trying.size;
             unbeaten = trying.unbeaten;
             finds = λ b h.
                 let n : ℕ = length b.tones in
-                let more : found n s' ≡ counted (found n s) = cc (ap (λ o. seen n o s'.sheet) best, ap (seen n s.best) sheet, trials) in
-                more ∙ stepped_none (problem dist b) c (drop (k + 1) (rows b)) (take k entry.laid) (take k entry.numbers) v (found n entry) (found n s) cs number x listed is (trying.finds b h) (laid_row b None (none b h));
+                let more : found n s' ≡ counted (found n s) = cc (ap (seen n) best, trials) in
+                more ∙ stepped_none (problem dist b) c (drop (k + 1) (rows b)) (ratios (take k entry.laid)) (numbers (take k entry.laid)) v (found n entry) (found n s) cs number x listed is (trying.finds b h) (laid_row b None (none b h));
           }
 
-          module _ (w : V) (kept : (b : Book) → Holds d b → row (problem dist b) c k x 0 (take k s.laid) v ≡ Some w)
-              (s₁ : Search V) (laid₁ : s₁.laid ≡ set s.laid k x) (numbers₁ : s₁.numbers ≡ set s.numbers k number) (best₁ : s₁.best ≡ s.best) (sheet₁ : s₁.sheet ≡ s.sheet) (trials₁ : s₁.trials ≡ s.trials + 1)
-              (in_laid : k < length s.laid) (in_numbers : k < length s.numbers) where
+          module _ (w : V) (kept : (b : Book) → Holds d b → row (problem dist b) c k x 0 (ratios (take k s.laid)) v ≡ Some w)
+              (s₁ : Search V) (laid₁ : s₁.laid ≡ set s.laid k (record { ratio = x; number = number })) (best₁ : s₁.best ≡ s.best) (trials₁ : s₁.trials ≡ s.trials + 1)
+              (in_laid : k < length s.laid) where
+            -- what is laid with the candidate
+            front : take (k + 1) s₁.laid ≡ take k entry.laid ++ (record { ratio = x; number = number } ∷ [])
+            front =
+                let l : Laid = record { ratio = x; number = number } in
+                ap (take (k + 1)) laid₁ ∙ (take_more_set s.laid k l in_laid ∙ ap (λ ls. ls ++ (l ∷ [])) trying.laid)
+
             -- the search below the candidate, as the function has it
             child : (b : Book) → Holds d b
-                → searched dist c b (k + 1) w s₁ ≡ explore (problem dist b) c (drop (k + 1) (rows b)) (take k entry.laid ++ (x ∷ [])) (take k entry.numbers ++ (number ∷ [])) w (counted (found (length b.tones) s))
+                → searched dist c b (k + 1) w s₁ ≡ explore (problem dist b) c (drop (k + 1) (rows b)) (ratios (take k entry.laid) ++ (x ∷ [])) (numbers (take k entry.laid) ++ (number ∷ [])) w (counted (found (length b.tones) s))
             child b h =
                 let n : ℕ = length b.tones in
-                let more : found n s₁ ≡ counted (found n s) = cc (ap (λ o. seen n o s₁.sheet) best₁, ap (seen n s.best) sheet₁, trials₁) in
-                let ratios : take (k + 1) s₁.laid ≡ take k entry.laid ++ (x ∷ []) = ap (take (k + 1)) laid₁ ∙ (take_more_set s.laid k x in_laid ∙ ap (λ xs. xs ++ (x ∷ [])) trying.laid) in
-                let numbers : take (k + 1) s₁.numbers ≡ take k entry.numbers ++ (number ∷ []) = ap (take (k + 1)) numbers₁ ∙ (take_more_set s.numbers k number in_numbers ∙ ap (λ xs. xs ++ (number ∷ [])) trying.numbers) in
-                ap (λ xs. explore (problem dist b) c (drop (k + 1) (rows b)) xs (take (k + 1) s₁.numbers) w (found n s₁)) ratios
-                ∙ (ap (λ ns. explore (problem dist b) c (drop (k + 1) (rows b)) (take k entry.laid ++ (x ∷ [])) ns w (found n s₁)) numbers
-                ∙ ap (explore (problem dist b) c (drop (k + 1) (rows b)) (take k entry.laid ++ (x ∷ [])) (take k entry.numbers ++ (number ∷ [])) w) more)
+                let l : Laid = record { ratio = x; number = number } in
+                let more : found n s₁ ≡ counted (found n s) = cc (ap (seen n) best₁, trials₁) in
+                let xs : ratios (take (k + 1) s₁.laid) ≡ ratios (take k entry.laid) ++ (x ∷ []) = ap ratios front ∙ map-append (λ (l : Laid). l.ratio) (take k entry.laid) (l ∷ []) in
+                let ns : numbers (take (k + 1) s₁.laid) ≡ numbers (take k entry.laid) ++ (number ∷ []) = ap numbers front ∙ map-append (λ (l : Laid). l.number) (take k entry.laid) (l ∷ []) in
+                ap (λ ys. explore (problem dist b) c (drop (k + 1) (rows b)) ys (numbers (take (k + 1) s₁.laid)) w (found n s₁)) xs
+                ∙ (ap (λ ms. explore (problem dist b) c (drop (k + 1) (rows b)) (ratios (take k entry.laid) ++ (x ∷ [])) ms w (found n s₁)) ns
+                ∙ ap (explore (problem dist b) c (drop (k + 1) (rows b)) (ratios (take k entry.laid) ++ (x ∷ [])) (numbers (take k entry.laid) ++ (number ∷ [])) w) more)
 
             pub spent_child : Overspent dist c d allowance (k + 1) w s₁ → Overspent dist c d allowance k v entry
-            spent_child over b h =
-                let n : ℕ = length b.tones in
-                let more : allowance < (explore (problem dist b) c (drop (k + 1) (rows b)) (take k entry.laid ++ (x ∷ [])) (take k entry.numbers ++ (number ∷ [])) w (counted (found n s))).trials = subst (λ f. allowance < f.trials) (child b h) (over b h) in
-                let all_of = spent_below (problem dist b) c (drop (k + 1) (rows b)) (take k entry.laid) (take k entry.numbers) v (found n entry) (found n s) cs number allowance x w listed is (trying.finds b h) (trying.unbeaten n) (laid_row b (Some w) (kept b h)) more in
-                subst (λ f. allowance < f.trials) (sym (whole b h)) all_of
+            spent_child child_over = record {
+              over = λ b h.
+                  let n : ℕ = length b.tones in
+                  let more : allowance < (explore (problem dist b) c (drop (k + 1) (rows b)) (ratios (take k entry.laid) ++ (x ∷ [])) (numbers (take k entry.laid) ++ (number ∷ [])) w (counted (found n s))).trials = subst (λ f. allowance < f.trials) (child b h) (child_over.over b h) in
+                  let all_of = spent_below (problem dist b) c (drop (k + 1) (rows b)) (ratios (take k entry.laid)) (numbers (take k entry.laid)) v (found n entry) (found n s) cs number allowance x w listed is (trying.finds b h) (trying.unbeaten n) (laid_row b (Some w) (kept b h)) more in
+                  subst (λ f. allowance < f.trials) (sym (whole b h)) all_of;
+            }
 
-            pub trying_on : (s₂ : Search V) (stack₂ : List V) (room₂ : ℕ) → Went dist c d allowance (k + 1) w s₁ s₂ → stack₂ ≡ stack → room₂ ≡ room → Trying dist c d allowance k v cs (number + 1) entry s₂ stack₀ stack₂ room₀ room₂
-            trying_on s₂ stack₂ room₂ went same_stack same_room = record {
-              laid = shorter k s₂.laid s₁.laid went.laid ∙ (ap (take k) laid₁ ∙ (take-set s.laid k x ∙ trying.laid));
-              numbers = shorter k s₂.numbers s₁.numbers went.numbers ∙ (ap (take k) numbers₁ ∙ (take-set s.numbers k number ∙ trying.numbers));
-              within = went.within;
-              stacked = same_stack ∙ trying.stacked;
-              size = same_room ∙ trying.size;
+            pub trying_on : (s₂ s₃ : Search V) → Went dist c d allowance (k + 1) w s₁ s₂ → s₃.laid ≡ s₂.laid → s₃.best ≡ s₂.best → s₃.trials ≡ s₂.trials → s₃.costs.values ≡ s.costs.values → room s₃.costs ≡ room s.costs
+                → Trying dist c d allowance k v cs (number + 1) entry s₃
+            trying_on s₂ s₃ went laid best trials costs size = record {
+              laid = ap (take k) laid ∙ (shorter k s₂.laid s₁.laid went.laid ∙ (ap (take k) laid₁ ∙ (take-set s.laid k (record { ratio = x; number = number }) ∙ trying.laid)));
+              costs = costs ∙ trying.costs;
+              size = size ∙ trying.size;
+              within = omega (arith, went.within);
               unbeaten = trying.unbeaten;
               finds = λ b h.
                   let n : ℕ = length b.tones in
-                  went.finds b h
-                  ∙ (child b h ∙ stepped_some (problem dist b) c (drop (k + 1) (rows b)) (take k entry.laid) (take k entry.numbers) v (found n entry) (found n s) cs number x w listed is (trying.finds b h) (laid_row b (Some w) (kept b h)));
+                  let same : found n s₃ ≡ found n s₂ = cc (ap (seen n) best, trials) in
+                  same ∙ (went.finds b h
+                  ∙ (child b h ∙ stepped_some (problem dist b) c (drop (k + 1) (rows b)) (ratios (take k entry.laid)) (numbers (take k entry.laid)) v (found n entry) (found n s) cs number x w listed is (trying.finds b h) (laid_row b (Some w) (kept b h))));
             }
+
+-- ---- the numbers written out
+
+-- each element is that of the first list, mapped
+pub mapped : {X Y : Type 0} (f : X → Y) (xs : List X) (ys : List Y) (d : X) (e : Y) → length ys ≡ length xs → ((i : ℕ) → i < length xs → get_or ys i e ≡ f (get_or xs i d)) → ys ≡ map f xs
+mapped f [] [] d e long at = refl
+mapped f [] (y ∷ ys) d e long at = absurd (omega arith)
+mapped f (x ∷ xs) [] d e long at = absurd (omega arith)
+mapped f (x ∷ xs) (y ∷ ys) d e long at = cc (at 0 (omega arith), mapped f xs ys d e (omega arith) (λ i h. at (suc i) (omega arith)))
+
+-- ---- a cost by another name
+
+module _ {V : Type 0} (dist : Ratio → Ratio → ℕ) (c : Costing V) (d : Draft) (allowance k : ℕ) (u v : V) (same : u ≡ v) (before : Search V) where
+  pub went_of : (after : Search V) → Went dist c d allowance k u before after → Went dist c d allowance k v before after
+  went_of after went = subst (λ w. Went dist c d allowance k w before after) same went
+
+  pub overspent_of : Overspent dist c d allowance k u before → Overspent dist c d allowance k v before
+  overspent_of over = subst (λ w. Overspent dist c d allowance k w before) same over
 
 -- ---- one pair
 
+apart : (e k : ℕ) → e < k → e ≡ k → ⊥
+apart e k less same = omega arith
+
 -- the bound that is read is the book's
-pub bound_read : (d : Draft) (b : Book) → Holds d b → (e k x : ℕ) → e < k → k < d.tones.count → Some x ≡ bound_in b e k → x ≡ b.bound e k
+pub bound_read : (d : Draft) (b : Book) → Holds d b → (e k x : ℕ) → e < k → k < length (entered_tones d) → Some x ≡ bound_in b e k → x ≡ b.bound e k
 bound_read d b h e k x less there is =
-    let same = held_count d b h in
-    let apart : e ≡ k → ⊥ = λ same. omega arith in
-    let at = bound_there b e k apart (omega arith) (omega arith) in
+    let same = held_length d b h in
+    let at = bound_there b e k (apart e k less) (omega arith) (omega arith) in
     cc
 
-pub bound_some : (d : Draft) (b : Book) → Holds d b → (e k : ℕ) → e < k → k < d.tones.count → ◌≡◌ {A = Option ℕ} None (bound_in b e k) → ⊥
+pub bound_some : (d : Draft) (b : Book) → Holds d b → (e k : ℕ) → e < k → k < length (entered_tones d) → ◌≡◌ {A = Option ℕ} None (bound_in b e k) → ⊥
 bound_some d b h e k less there is =
-    let same = held_count d b h in
-    let apart : e ≡ k → ⊥ = λ same. omega arith in
-    let at = bound_there b e k apart (omega arith) (omega arith) in
+    let same = held_length d b h in
+    let at = bound_there b e k (apart e k less) (omega arith) (omega arith) in
     let z : ◌≡◌ {A = ℕ} 0 1 = cc in
     omega arith
 
-pub laid_read : (laid : List Ratio) (e k : ℕ) (y : Ratio) → e < k → k ≤ length laid → get_or laid e y ≡ get_or (take k laid) e (get_or laid e y)
-laid_read laid e k y less long = get_or_default laid e y (get_or laid e y) (omega arith) ∙ sym (get_or-take k laid e (get_or laid e y) less)
-
 -- ---- the stack
 
+-- the value that is taken off the top is the last
+pub on_top : {V : Type 0} (r : Option V) (xs rest : List V) (u : V) → r ≡ Some u → TakenOff r xs rest → (past : List V) (v : V) → xs ≡ past ++ (v ∷ []) → u ≡ v
+on_top r xs rest u is taken past v put = let same = (taken_put r past xs rest v put taken).0 in cc
+
 -- there is room, so the value is put on
-pub pushed : {U E V : Type 0} (r : Result U E) (n : ℕ) (v : V) (before after : List V) → PutOn r n v before after → length before < n → after ≡ before ++ (v ∷ [])
-pushed (Ok _) n v before after put less = put
-pushed (Err _) n v before after put less = absurd (omega (arith, put.0))
+pub room_left : {U E V : Type 0} (r : Result U E) (n : ℕ) (v : V) (before after : List V) → PutOn r n v before after → length before < n → IsOk r × (after ≡ before ++ (v ∷ []))
+room_left (Ok u) n v before after put less = (refl, put)
+room_left (Err e) n v before after put less = absurd (omega (arith, put.0))
+
+-- the first value on an empty stack
+pub first_on : {U E V : Type 0} (r : Result U E) (n : ℕ) (v nil : V) (before after : List V) → PutOn r n v before after → before ≡ [] → v ≡ nil → 0 < n → IsOk r × (after ≡ nil ∷ [])
+first_on r n v nil before after put empty is less =
+    let on = room_left r n v before after put (omega (arith, ap length empty)) in
+    (on.0, on.1 ∙ (ap (λ xs. xs ++ (v ∷ [])) empty ∙ ap (λ w. w ∷ []) is))

@@ -1,67 +1,64 @@
 //! The search below a start.
 
-ghost use Rattle.std.specs.Prelude.{◌≡◌, ◌+◌, ◌≤◌, List, [], ◌∷◌, ◌++◌, length, MatchResult, OnOk};
+ghost use Rattle.std.specs.Prelude.{◌≡◌, ◌+◌, ◌≤◌, List, [], ◌∷◌, ◌++◌, length, MatchResult};
 ghost use Rattle.costing.specs.Stacks.{room};
+ghost use Rattle.draft.specs.Held.{entered_tones};
 ghost use Rattle.settling.specs.Posed.{meant};
 ghost use Rattle.settling.specs.Searching.{Went, Overspent};
 
-use super::{Search, Spent};
+use super::{Best, Laid, Quest, Search, Spent};
 use costing::costing::Costing;
-use costing::stack::Stack;
-use draft::draft::Draft;
 use measure::measure::Measure;
 
-/// Searches all that extends the start of the first `k` tones, whose cost is on top of the stack, in list order.
-///
-/// A start that costs no less than the best so far is left at once. Every candidate that is looked at is one trial.
-pub(crate) fn descend<M: Measure, C: Costing>(
-    search: &mut Search<C::Value>,
-    stack: &mut Stack<C::Value>,
-    measure: &M,
-    costing: &C,
-    draft: &Draft,
-    allowance: u64,
-    k: usize,
-) -> Result<(), Spent>
-    requires { (length stack.old.values ≡ k + 1) × (33 ≤ room stack.old) × (k ≤ draft.now.tones.count) × (search.old.trials ≤ allowance) }
-    ensures stacked { OnOk result ((stack.new.values ≡ stack.old.values) × (room stack.new ≡ room stack.old)) }
-    ensures searched { (rest : List C.Value) (v : C.Value) → stack.old.values ≡ rest ++ (v ∷ []) → MatchResult result (λ _. Went (M.Measure.dist measure.now) (meant C.Costing) draft.now allowance k v search.old search.new) (λ _. Overspent (M.Measure.dist measure.now) (meant C.Costing) draft.now allowance k v search.old) }
-{
-    let Some(cost) = stack.top() else {
-        return Ok(());
-    };
-    if let Some(best) = search.best {
-        if costing.no_more(best, cost) {
-            return Ok(());
-        }
-    }
-    let Some(candidates) = draft.candidates(k) else {
-        let numbers = search.numbers;
-        search.best = Some(cost);
-        search.sheet = numbers;
-        return Ok(());
-    };
-    'candidates: for (number, ratio) in candidates.iter().enumerate() {
-        if search.trials == allowance {
-            return Err(Spent);
-        }
-        search.trials += 1;
-        let mut sum = cost;
-        for earlier in 0..k {
-            let apart = measure.distance(&search.laid[earlier], ratio);
-            let Some(bound) = draft.bound_of(earlier, k) else {
-                continue 'candidates;
-            };
-            if apart > bound {
-                continue 'candidates;
+impl<M: Measure, C: Costing> Quest<'_, '_, '_, M, C> {
+    /// Searches all that extends the start of the first `k` tones, whose cost is on top of the stack, in list order.
+    ///
+    /// A start that costs no less than the best so far is left at once. Every candidate that is looked at is one trial.
+    pub(crate) fn descend(&self, search: &mut Search<C::Value>, k: usize) -> Result<(), Spent>
+        requires height { length search.old.costs.values ≡ k + 1 }
+        requires wide { 33 ≤ room search.old.costs }
+        requires within_draft { k ≤ length (entered_tones self.now.draft.now) }
+        requires within_allowance { search.old.trials ≤ self.now.allowance }
+        ensures searched { (rest : List C.Value) (v : C.Value) → search.old.costs.values ≡ rest ++ (v ∷ []) → MatchResult result (λ _. Went (M.Measure.dist self.now.yardstick.now.measure.now) (meant C.Costing) self.now.draft.now self.now.allowance k v search.old search.new) (λ _. Overspent (M.Measure.dist self.now.yardstick.now.measure.now) (meant C.Costing) self.now.draft.now self.now.allowance k v search.old) }
+    {
+        let measure = self.yardstick.measure;
+        let costing = self.yardstick.costing;
+        let cost = search.costs.top().unwrap();
+        if let Some(best) = search.best {
+            if costing.no_more(best.cost, cost) {
+                return Ok(());
             }
-            sum = costing.joined(sum, costing.of(apart));
         }
-        search.laid[k] = *ratio;
-        search.numbers[k] = number as u8;
-        let _ = stack.push(sum);
-        descend(search, stack, measure, costing, draft, allowance, k + 1)?;
-        let _ = stack.pop();
+        let Some(candidates) = self.draft.candidates(k) else {
+            let sheet = search.laid.map(|laid| laid.number);
+            search.best = Some(Best { cost, sheet });
+            return Ok(());
+        };
+        'candidates: for (number, ratio) in candidates.iter().enumerate() {
+            if search.trials == self.allowance {
+                return Err(Spent);
+            }
+            search.trials += 1;
+            let mut sum = cost;
+            for (earlier, laid) in search.laid[..k].iter().enumerate() {
+                let apart = measure.distance(&laid.ratio, ratio);
+                // stays (rule): nested loops, and the first broken bound leaves the inner one
+                let Some(bound) = self.draft.bound_of(earlier, k) else {
+                    continue 'candidates;
+                };
+                if apart > bound {
+                    continue 'candidates;
+                }
+                sum = costing.joined(sum, costing.of(apart));
+            }
+            search.laid[k] = Laid {
+                ratio: *ratio,
+                number: number as u8,
+            };
+            search.costs.push(sum).unwrap();
+            self.descend(search, k + 1)?;
+            search.costs.pop();
+        }
+        Ok(())
     }
-    Ok(())
 }

@@ -15,8 +15,9 @@ use costing::costing::Costing;
 use draft::draft::Draft;
 use measure::measure::Measure;
 
-impl<'a, M: Measure, C: Costing> Yardstick<'a, M, C> {
+impl<M: Measure, C: Costing> Yardstick<'_, M, C> {
     /// Puts one step to the draft.
+    // stays (no plainer): the sheet is a result and the stack is scratch, and a struct that borrows both would be taken apart here again
     fn take_step(
         &self,
         draft: &mut Draft,
@@ -54,6 +55,7 @@ impl<'a, M: Measure, C: Costing> Yardstick<'a, M, C> {
     {
         let mut draft = Draft::new();
         let count = steps.len().min(entries.len());
+        // stays (proof): after `steps.iter().zip(entries.iter_mut())` nothing is known of what stands in `entries`
         for number in 0..count {
             let answer = self.take_step(&mut draft, steps[number], sheet, stack);
             entries[number] = Entry {

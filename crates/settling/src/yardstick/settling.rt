@@ -8,8 +8,7 @@ ghost use Rattle.settling.specs.Promise.{Settling};
 
 use super::Yardstick;
 use crate::fault::SearchFault;
-use crate::search::Search;
-use crate::search::descend::descend;
+use crate::search::{Laid, Quest, Search};
 use crate::settle::{LARGEST_ALLOWANCE, STACK_PLACES, Settled, Sheet};
 use costing::costing::Costing;
 use costing::stack::Stack;
@@ -17,7 +16,7 @@ use draft::draft::Draft;
 use measure::measure::Measure;
 use ratio::ratio::Ratio;
 
-impl<'a, M: Measure, C: Costing> Yardstick<'a, M, C> {
+impl<M: Measure, C: Costing> Yardstick<'_, M, C> {
     /// The best scale of the draft: one candidate for each tone that keeps all bounds and costs least; of equals the first
     /// in list order. The sheet's first places then hold the candidate numbers.
     ///
@@ -43,29 +42,31 @@ impl<'a, M: Measure, C: Costing> Yardstick<'a, M, C> {
         if tones == 0 {
             return Err(SearchFault::NoTone);
         }
+        let unison = Laid {
+            ratio: Ratio::unison(),
+            number: 0,
+        };
         let mut search = Search {
-            laid: [Ratio::unison(); 32],
-            numbers: [0; 32],
+            laid: [unison; 32],
+            costs: Stack::over(stack),
             best: None,
-            sheet: [0; 32],
             trials: 0,
         };
-        let mut partial = Stack::over(stack);
-        let _ = partial.push(self.costing.nothing());
-        descend(
-            &mut search,
-            &mut partial,
-            self.measure,
-            self.costing,
+        search.costs.push(self.costing.nothing()).unwrap();
+        let quest = Quest {
+            yardstick: self,
             draft,
             allowance,
-            0,
-        )?;
+        };
+        quest.descend(&mut search, 0)?;
         let trials = search.trials;
-        let Some(cost) = search.best else {
+        let Some(best) = search.best else {
             return Err(SearchFault::NoScale { trials });
         };
-        sheet[..tones].copy_from_slice(&search.sheet[..tones]);
-        Ok(Settled { cost, trials })
+        sheet[..tones].copy_from_slice(&best.sheet[..tones]);
+        Ok(Settled {
+            cost: best.cost,
+            trials,
+        })
     }
 }
