@@ -26,9 +26,5 @@ loop-rest-preserved c =
       halves c.args.number c.args.prime c.loop-rest.times c.loop-rest.rest c.requires.2 c.loop-rest.invariant.2 zero_left,
     )
 
-pub returns : goal.returns
-returns c = record {
-  parts = c.loop-rest.invariant.0;
-  left = c.loop-rest-test.false;
-  few = few_times c.loop-rest.times c.loop-rest.rest c.args.number c.loop-rest.invariant.1 c.loop-rest.invariant.2 c.requires.1;
-}
+pub returns-clause-few : goal.returns-clause-few
+returns-clause-few c = few_times c.loop-rest.times c.loop-rest.rest c.args.number c.loop-rest.invariant.1 c.loop-rest.invariant.2 c.requires.1
