@@ -58,9 +58,7 @@ impl Factors {
         let mut powers = PRIMES.map(|prime| (prime, 0));
         let mut rest = number;
         for (prime, times) in &mut powers {
-            let (divided, left) = divided_out(rest, u64::from(*prime));
-            *times = divided;
-            rest = left;
+            (*times, rest) = divided_out(rest, u64::from(*prime));
         }
         Factors {
             multiplicities: powers.map(|(_, times)| times),
@@ -80,6 +78,7 @@ impl Factors {
 }
 
 /// How often `prime` divides `number`, and what is left without it.
+#[tactic(auto, using(crate::proofs::Multiplicities::few_times, crate::proofs::Multiplicities::one_more, crate::proofs::Multiplicities::some_left, crate::proofs::Multiplicities::halves))]
 fn divided_out(number: u64, prime: u64) -> (u8, u64)
     requires { (0 < number) × (number ≤ 4294967295) × (1 < prime) }
     ensures parts { number ≡ prime ^ result.0 * result.1 }

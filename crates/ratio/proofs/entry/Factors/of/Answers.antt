@@ -27,8 +27,8 @@ turn c =
     let i = c.loop-prime.prime-index in
     c.from.ensures ∙ (sym (get_or-map prime items i (0, 0) 0 (omega (arith, c.loop-prime-test.true, length-map items prime, ap length c.loop-prime.invariant.0))) ∙ ap (λ ps. get_or ps i 0) c.loop-prime.invariant.0)
 
-pub divided_out-divided-requires : goal.divided_out-divided-requires
-divided_out-divided-requires c = (
+pub divided_out-requires : goal.divided_out-requires
+divided_out-requires c = (
   c.loop-prime.invariant.1.some,
   c.loop-prime.invariant.1.small,
   subst (λ p. 1 < p) (sym (turn c)) (prime_large c.loop-prime.prime-index c.loop-prime-test.true),
@@ -37,15 +37,15 @@ divided_out-divided-requires c = (
 pub loop-prime-preserved : goal.loop-prime-preserved
 loop-prime-preserved c =
     let p = turn (goal.at.loop-prime-preserved c).After-from in
-    let r = c.divided_out-divided.result in
+    let r = c.divided_out.result in
     let items = c.loop-prime.prime-items in
     let i = c.loop-prime.prime-index in (
       map-set_same prime items i _ (0, 0) refl ∙ c.loop-prime.invariant.0,
       subst (λ ks. Apart c.args.number (i + 1) ks r.1) (sym (map-set times items i _))
           (apart_more c.args.number i (map times items) c.loop-prime.rest r.0 r.1 c.loop-prime.invariant.1 c.loop-prime-test.true
-          (subst (λ q. c.loop-prime.rest ≡ q ^ r.0 * r.1) p c.divided_out-divided.ensures.parts)
-          (subst (λ q. Misses q r.1) p c.divided_out-divided.ensures.left)
-          c.divided_out-divided.ensures.few),
+          (subst (λ q. c.loop-prime.rest ≡ q ^ r.0 * r.1) p c.divided_out.ensures.parts)
+          (subst (λ q. Misses q r.1) p c.divided_out.ensures.left)
+          c.divided_out.ensures.few),
     )
 
 -- the multiplicities by themselves
