@@ -7,11 +7,11 @@ use Rattle.ratio.specs.declared.ratio.Ratio.{Ratio}
 use Rattle.ratio.specs.declared.fault.RatioFault.{RatioFault}
 use Rattle.ratio.specs.declared.fault.RatioFault.TheVariants.{PartTooLarge, PrimeLeft}
 use Rattle.ratio.specs.Products.{product, primes, numerator, denominator}
-use Rattle.ratio.specs.Factors.{Misses, Without, Factored, minus}
+use Rattle.ratio.specs.Factors.{Misses, Without, minus}
 use Rattle.ratio.specs.Entry.{PartsFit, Quotient, Entered}
 use Rattle.ratio.specs.Computed.{times, powers, ratio_if, quotient_if, entry}
 use Rattle.ratio.proofs.Divides.{Distinct, primes_distinct}
-use Rattle.ratio.proofs.Factoring.{misses_some, miss_power, miss_product}
+use Rattle.ratio.proofs.Factoring.{Factored, misses_some, miss_power, miss_product}
 use Rattle.ratio.proofs.Multiplicities.{few_times}
 use Rattle.ratio.proofs.Lowest.{rests_same, quotient_is, numerator_less, denominator_less}
 use Rattle.ratio.proofs.Entered.{entered_once}

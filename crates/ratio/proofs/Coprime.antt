@@ -4,10 +4,10 @@ use native.Mathlib.Nat.{pow-zero, pow-succ', div-lt_self}
 use borrow.Author.Differences.{up, down}
 use Rattle.std.proofs.lemmas.Bool.{cases_eq}
 use Rattle.ratio.specs.Products.{product, primes, numerator, denominator}
-use Rattle.ratio.specs.Factors.{Misses, Without, Factored, minus}
+use Rattle.ratio.specs.Factors.{Misses, Without, minus}
 use Rattle.ratio.specs.Entry.{Quotient}
 use Rattle.ratio.proofs.Divides.{Distinct, primes_distinct}
-use Rattle.ratio.proofs.Factoring.{misses_some}
+use Rattle.ratio.proofs.Factoring.{Factored, misses_some}
 use Rattle.ratio.proofs.Multiplicities.{divided, some_left, multiple}
 use Rattle.ratio.proofs.Lowest.{primes_some, minus_six, rests_same, quotient_is, numerator_less}
 use Rattle.ratio.proofs.Terms.{product_some}

@@ -3,9 +3,15 @@
 use Rattle.std.proofs.Common.{◌≡◌, ℕ, zero, suc, ◌+◌, ◌*◌, ◌%◌, ◌^◌, ◌<◌, List, [], ◌∷◌, length, sym, refl, ap, ◌∙◌, subst, mod-eq_of_lt, mul_assoc, one-mul, arith, pow-add}
 use native.Mathlib.Nat.{mul-mod_right, pow-zero, pow-succ', eq_of_mul-eq-mul_left, zero-mod}
 use Rattle.std.specs.List.{AllByRecursion}
-use Rattle.ratio.specs.Products.{product}
-use Rattle.ratio.specs.Factors.{Misses}
+use Rattle.ratio.specs.Products.{product, primes}
+use Rattle.ratio.specs.Factors.{Misses, Without}
 use Rattle.ratio.proofs.Divides.{Prime, Distinct}
+
+-- n is the primes to the powers ks, times a rest that none of them divides
+pub record Factored (n : ℕ) (ks : List ℕ) (rest : ℕ) : Type 0 where
+  pub six : length ks ≡ 6
+  pub parts : n ≡ product primes ks * rest
+  pub left : Without primes rest
 
 pub misses_one : {p : ℕ} → Prime p → Misses p 1
 misses_one {p} prime z = let e : 1 % p ≡ 1 = mod-eq_of_lt prime.large in omega arith

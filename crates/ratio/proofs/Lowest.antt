@@ -7,9 +7,9 @@ use borrow.Author.Differences.{up, down, same_in}
 use Rattle.std.specs.List.{AllZip, AllByRecursion}
 use Rattle.std.proofs.lemmas.Int.{ints}
 use Rattle.ratio.specs.Products.{product, primes, numerator, denominator}
-use Rattle.ratio.specs.Factors.{Without, Factored, minus}
+use Rattle.ratio.specs.Factors.{Without, minus}
 use Rattle.ratio.proofs.Divides.{Distinct, primes_distinct}
-use Rattle.ratio.proofs.Factoring.{misses_one, misses_some, same_product, plus, length_plus, product_plus}
+use Rattle.ratio.proofs.Factoring.{Factored, misses_one, misses_some, same_product, plus, length_plus, product_plus}
 
 without_one : (ps : List ℕ) → Distinct ps → Without ps 1
 without_one [] d = tt

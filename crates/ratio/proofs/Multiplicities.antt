@@ -1,5 +1,5 @@
 -- The steps by which a number is taken apart. Assumes nothing.
-use Rattle.std.proofs.Common.{◌≡◌, ℕ, zero, suc, ◌+◌, ◌*◌, ◌/◌, ◌%◌, ◌^◌, ◌<◌, ◌≤◌, List, [], ◌∷◌, ◌++◌, length, get_or, take, set, ℤ, pos, ◌-ℤ◌, sym, refl, ap, ◌∙◌, subst, ⊎_elim, mul-le-mul_right, mul_assoc, mul_comm, mul-le-mul_left, one-mul, pow-suc, mul-one, mul_left_comm, add-one, arith, length-set, length-take, pow_mono, pow-add, w8, to_z, of_z}
+use Rattle.std.proofs.Common.{◌≡◌, ℕ, zero, suc, ◌+◌, ◌*◌, ◌/◌, ◌%◌, ◌^◌, ◌<◌, ◌≤◌, List, [], ◌∷◌, ◌++◌, map, length, get_or, take, set, ℤ, pos, ◌-ℤ◌, sym, refl, ap, ◌∙◌, subst, ⊎_elim, mul-le-mul_right, mul_assoc, mul_comm, mul-le-mul_left, one-mul, pow-suc, mul-one, mul_left_comm, add-one, arith, length-set, pow_mono, pow-add, w8, to_z, of_z}
 use native.Mathlib.Nat.{mul-mod_right, div-add-mod}
 use Rattle.std.proofs.lemmas.Int.{ints}
 use Rattle.std.specs.List.{AllByRecursion}
@@ -7,8 +7,8 @@ use Rattle.std.proofs.lemmas.Bool.{cases_lt}
 use Rattle.std.proofs.ByRecursion.{All-push, All-set, All-get_or}
 use Rattle.std.proofs.lemmas.List.{take_more, take_more_set, take_all, length-take-le}
 use Rattle.ratio.specs.Products.{product, primes}
-use Rattle.ratio.specs.Factors.{Misses, Without, Factored, minus}
-use Rattle.ratio.proofs.Factoring.{misses_some}
+use Rattle.ratio.specs.Factors.{Misses, Without, minus}
+use Rattle.ratio.proofs.Factoring.{Factored, misses_some}
 
 -- ---- one prime
 
@@ -57,25 +57,39 @@ product_push [] (x ∷ ks) p k h = absurd (omega arith)
 product_push (q ∷ ps) [] p k h = absurd (omega arith)
 product_push (q ∷ ps) (x ∷ ks) p k h = ap (λ n. q ^ x * n) (product_push ps ks p k (omega arith)) ∙ sym (mul_assoc (q ^ x) (product ps ks) (p ^ k))
 
-pub minus_push : (xs ys : List ℕ) (x y : ℕ) → length xs ≡ length ys → minus (xs ++ (x ∷ [])) (ys ++ (y ∷ [])) ≡ minus xs ys ++ ((pos x -ℤ pos y) ∷ [])
-minus_push [] [] x y h = refl
-minus_push [] (b ∷ ys) x y h = absurd (omega arith)
-minus_push (a ∷ xs) [] x y h = absurd (omega arith)
-minus_push (a ∷ xs) (b ∷ ys) x y h = ap (λ zs. (pos a -ℤ pos b) ∷ zs) (minus_push xs ys x y (omega arith))
+-- a list that has f of each element is the map
+pub mapped : {X Y : Type 0} (f : X → Y) (xs : List X) (ys : List Y) (d : X) (e : Y) → length ys ≡ length xs
+    → ((i : ℕ) → i < length xs → get_or ys i e ≡ f (get_or xs i d)) → ys ≡ map f xs
+mapped f [] [] d e long at = refl
+mapped f [] (y ∷ ys) d e long at = absurd (omega arith)
+mapped f (x ∷ xs) [] d e long at = absurd (omega arith)
+mapped f (x ∷ xs) (y ∷ ys) d e long at = cc (at 0 (omega arith), mapped f xs ys d e (omega arith) (λ i h. at (suc i) (omega arith)))
+
+-- what holds at each of the six places holds at every place
+pub all_six : (P : ℕ → Type 0) → P 0 → P 1 → P 2 → P 3 → P 4 → P 5 → (i : ℕ) → i < 6 → P i
+all_six P a b c d e f zero h = a
+all_six P a b c d e f (suc zero) h = b
+all_six P a b c d e f (suc (suc zero)) h = c
+all_six P a b c d e f (suc (suc (suc zero))) h = d
+all_six P a b c d e f (suc (suc (suc (suc zero)))) h = e
+all_six P a b c d e f (suc (suc (suc (suc (suc zero))))) h = f
+all_six P a b c d e f (suc (suc (suc (suc (suc (suc i)))))) h = absurd (omega arith)
 
 -- a difference as the code computes it
-pub small_difference : (x y : ℕ) → x < 32 → y < 32 → to_z w8 (of_z w8 (to_z w8 x -ℤ to_z w8 y)) ≡ pos x -ℤ pos y
+abbrev pub difference : ℕ → ℕ → ℤ
+difference x y = to_z w8 (of_z w8 (to_z w8 x -ℤ to_z w8 y))
+
+pub small_difference : (x y : ℕ) → x < 32 → y < 32 → difference x y ≡ pos x -ℤ pos y
 small_difference x y h i = omega (arith, ints)
 
-pub minus_more : (xs ys : List ℕ) (zs : List ℤ) (i : ℕ) (z : ℤ) → length xs ≡ 6 → length ys ≡ 6 → length zs ≡ 6 → i < 6
-    → z ≡ pos (get_or xs i 0) -ℤ pos (get_or ys i 0) → take i zs ≡ minus (take i xs) (take i ys)
-    → take (i + 1) (set zs i z) ≡ minus (take (i + 1) xs) (take (i + 1) ys)
-minus_more xs ys zs i z lx ly lz h e inv =
-    let a = take_more_set zs i z (omega arith) in
-    let b = take_more xs i 0 (omega arith) in
-    let c = take_more ys i 0 (omega arith) in
-    let d = minus_push (take i xs) (take i ys) (get_or xs i 0) (get_or ys i 0) (simp length-take (omega arith)) in
-    cc
+-- the differences, place by place
+pub minus_at : (xs ys : List ℕ) (zs : List ℤ) → length ys ≡ length xs → length zs ≡ length xs
+    → ((i : ℕ) → i < length xs → get_or zs i (pos 0) ≡ pos (get_or xs i 0) -ℤ pos (get_or ys i 0)) → zs ≡ minus xs ys
+minus_at [] ys [] ly lz at = refl
+minus_at [] ys (z ∷ zs) ly lz at = absurd (omega arith)
+minus_at (x ∷ xs) [] zs ly lz at = absurd (omega arith)
+minus_at (x ∷ xs) (y ∷ ys) [] ly lz at = absurd (omega arith)
+minus_at (x ∷ xs) (y ∷ ys) (z ∷ zs) ly lz at = cc (at 0 (omega arith), minus_at xs ys zs (omega arith) (omega arith) (λ i h. at (suc i) (omega arith)))
 
 pub multiple : (n p q r : ℕ) → n ≡ q * r → r % p ≡ 0 → n % p ≡ 0
 multiple n p q r e z =

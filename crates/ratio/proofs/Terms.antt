@@ -1,14 +1,13 @@
 -- The parts of a ratio as products of its exponents, place by place. Assumes nothing.
-use Rattle.std.proofs.Common.{◌≡◌, ℕ, zero, suc, ◌+◌, ◌*◌, ◌^◌, ◌<◌, ◌≤◌, true, false, List, [], ◌∷◌, map, length, get_or, take, ℤ, pos, negsuc, ◌-ℤ◌, neg_ℤ, nat_abs, sym, refl, ap, ◌∙◌, mul-le-mul_right, mul-le-mul_left, arith, w8, SFits, to_z, of_z}
+use Rattle.std.proofs.Common.{◌≡◌, ℕ, zero, suc, ◌+◌, ◌*◌, ◌^◌, ◌<◌, ◌≤◌, List, [], ◌∷◌, map, length, get_or, take, ℤ, pos, negsuc, ◌-ℤ◌, neg_ℤ, nat_abs, sym, refl, ap, ◌∙◌, mul-le-mul_right, mul-le-mul_left, arith, w8, SFits, to_z, of_z}
 use native.Mathlib.Nat.{one-le-pow, one-le-mul}
-use lib.Signed.{lt_z}
-use Rattle.std.proofs.lemmas.Int.{ints, to_z-of_z}
-use Rattle.std.proofs.lemmas.Bool.{ltb-false, false≢true}
+use Rattle.std.proofs.lemmas.Int.{ints}
 use lib.ListN.{length-map}
 use borrow.Author.Differences.{up, down}
+use Rattle.std.specs.Int.{FitsUnsignedBits}
 use Rattle.std.specs.List.{AllByRecursion}
 use Rattle.std.proofs.ByRecursion.{All-take, All-get_or}
-use Rattle.std.proofs.lemmas.List.{take_more, take_all, length-take-le, get_or-map}
+use Rattle.std.proofs.lemmas.List.{take_more, length-take-le, get_or-map}
 use Rattle.ratio.specs.Products.{product, primes, numerator, denominator}
 use Rattle.ratio.specs.declared.ratio.Ratio.{Ratio}
 use Rattle.ratio.specs.Limits.{limits, Within}
@@ -71,24 +70,18 @@ downs_neg [] = refl
 downs_neg (e ∷ es) = cc (down_neg e, downs_neg es)
 
 -- one more exponent turned, and that it fits
-pub turned : (e : ℤ) → SFits w8 e → nat_abs e ≤ 31 → SFits w8 (pos 0 -ℤ to_z w8 (of_z w8 e)) × (to_z w8 (of_z w8 (pos 0 -ℤ to_z w8 (of_z w8 e))) ≡ neg_ℤ e)
-turned e fits small = (omega (arith, ints), omega (arith, ints))
+pub turned : (e : ℤ) → nat_abs e ≤ 31 → SFits w8 (pos 0 -ℤ to_z w8 (of_z w8 e)) × (to_z w8 (of_z w8 (pos 0 -ℤ to_z w8 (of_z w8 e))) ≡ neg_ℤ e)
+turned e small = (omega (arith, ints), omega (arith, ints))
 
-pub all_turned : (i : ℕ) (xs es : List ℤ) → 6 ≤ i → length xs ≡ 6 → length es ≡ 6 → take i xs ≡ map neg_ℤ (take i es) → xs ≡ map neg_ℤ es
-all_turned i xs es h lx le front =
-    let a = take_all i xs (omega arith) in
-    let b = take_all i es (omega arith) in
-    cc
+within_at : (ls : List ℕ) (es : List ℤ) (i : ℕ) (d : ℤ) → Within ls es → i < length ls → i < length es → nat_abs (get_or es i d) ≤ get_or ls i 0
+within_at [] es i d w h g = absurd (omega arith)
+within_at (l ∷ ls) [] i d w h g = absurd (omega arith)
+within_at (l ∷ ls) (e ∷ es) zero d w h g = w.0
+within_at (l ∷ ls) (e ∷ es) (suc i) d w h g = within_at ls es i d w.1 (omega arith) (omega arith)
 
-within_at : (ls : List ℕ) (es : List ℤ) (i : ℕ) → Within ls es → i < length ls → i < length es → nat_abs (get_or es i (pos 0)) ≤ get_or ls i 0
-within_at [] es i w h g = absurd (omega arith)
-within_at (l ∷ ls) [] i w h g = absurd (omega arith)
-within_at (l ∷ ls) (e ∷ es) zero w h g = w.0
-within_at (l ∷ ls) (e ∷ es) (suc i) w h g = within_at ls es i w.1 (omega arith) (omega arith)
-
-pub small_exponent : (r : Ratio) (i : ℕ) → i < 6 → nat_abs (get_or r.exponents i (pos 0)) ≤ 31
-small_exponent r i h =
-    let w = within_at limits r.exponents i (ratio_within r) h (omega (arith, r.six)) in
+pub small_exponent : (r : Ratio) (i : ℕ) (d : ℤ) → i < 6 → nat_abs (get_or r.exponents i d) ≤ 31
+small_exponent r i d h =
+    let w = within_at limits r.exponents i d (ratio_within r) h (omega (arith, r.six)) in
     let l = All-get_or (λ n. n ≤ 31) limits i 0 h (omega arith, (omega arith, (omega arith, (omega arith, (omega arith, (omega arith, tt)))))) in
     omega arith
 
@@ -100,16 +93,14 @@ denominator_neg es = ap (product primes) (downs_neg es)
 
 -- ---- an exponent as the code has it
 
-positive : (e : ℤ) → lt_z (pos 0) e ≡ true → nat_abs e ≡ up e
-positive (pos n) t = refl
-positive (negsuc n) t = absurd (false≢true t)
+-- what is no negative exponent is the power of its prime
+pub up_counted : (e : ℤ) → FitsUnsignedBits 32 e → nat_abs e ≡ up e
+up_counted (pos n) h = refl
+up_counted (negsuc n) h = absurd h
 
-negative : (e : ℤ) → lt_z (pos 0) e ≡ false → up e ≡ 0
-negative (pos n) t = omega (arith, ltb-false 0 n t)
-negative (negsuc n) t = refl
+pub up_none : (e : ℤ) → nat_abs e ≤ 31 → (FitsUnsignedBits 32 e → ⊥) → up e ≡ 0
+up_none (pos n) small h = absurd (h (omega arith))
+up_none (negsuc n) small h = refl
 
-pub up_positive : (e : ℤ) → SFits w8 e → lt_z (pos 0) (to_z w8 (of_z w8 e)) ≡ true → nat_abs (to_z w8 (of_z w8 e)) ≡ up e
-up_positive e fits t = let same = to_z-of_z w8 e fits in ap nat_abs same ∙ positive e (ap (lt_z (pos 0)) (sym same) ∙ t)
-
-pub up_negative : (e : ℤ) → SFits w8 e → lt_z (pos 0) (to_z w8 (of_z w8 e)) ≡ false → up e ≡ 0
-up_negative e fits t = negative e (ap (lt_z (pos 0)) (sym (to_z-of_z w8 e fits)) ∙ t)
+pub held : (e : ℤ) → nat_abs e ≤ 31 → to_z w8 (of_z w8 e) ≡ e
+held e small = omega (arith, ints)

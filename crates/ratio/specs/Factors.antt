@@ -1,7 +1,6 @@
 -- A number taken apart into powers of the six primes and a rest. Only private functions cite this.
-use Rattle.std.specs.Prelude.{◌≡◌, ℕ, ◌*◌, ◌%◌, List, [], ◌∷◌, length, ℤ, pos, ◌-ℤ◌}
+use Rattle.std.specs.Prelude.{◌≡◌, ℕ, ◌%◌, List, [], ◌∷◌, ℤ, pos, ◌-ℤ◌}
 use Rattle.std.specs.List.{AllByRecursion}
-use Rattle.ratio.specs.Products.{product, primes}
 
 -- n is no multiple of p
 abbrev pub Misses : ℕ → ℕ → Type 0
@@ -10,12 +9,6 @@ Misses p n = n % p ≡ 0 → ⊥
 -- none of the primes divides the rest
 abbrev pub Without : List ℕ → ℕ → Type 0
 Without ps rest = AllByRecursion (λ p. Misses p rest) ps
-
--- n is the primes to the powers ks, times a rest that none of them divides
-pub record Factored (n : ℕ) (ks : List ℕ) (rest : ℕ) : Type 0 where
-  pub six : length ks ≡ 6
-  pub parts : n ≡ product primes ks * rest
-  pub left : Without primes rest
 
 -- the differences of two lists of multiplicities
 abbrev pub minus : List ℕ → List ℕ → List ℤ

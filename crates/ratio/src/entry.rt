@@ -1,21 +1,24 @@
 //! Entry of a ratio from two numbers.
 
-ghost use Rattle.std.specs.Prelude.{◌≡◌, ℕ, ◌*◌, ◌%◌, ◌^◌, ◌<◌, ◌≤◌, Result, ◌≢◌};
-ghost use Rattle.std.specs.List.{AllByRecursion};
+ghost use Rattle.std.specs.Prelude.{◌≡◌, ℕ, ◌*◌, ◌%◌, ◌^◌, ◌<◌, ◌≤◌, All, Result, ◌≢◌};
 ghost use Rattle.ratio.specs.Entry.{Entered};
 ghost use Rattle.ratio.specs.Computed.{entry};
 ghost use Rattle.ratio.specs.declared.fault.RatioFault.{RatioFault};
 ghost use Rattle.ratio.specs.declared.ratio.Ratio.{Ratio};
-ghost use Rattle.ratio.specs.Factors.{Factored, minus};
+ghost use Rattle.ratio.specs.Factors.{Without, minus};
+ghost use Rattle.ratio.specs.Products.{product, primes};
 
 use crate::fault::RatioFault;
 use crate::ratio::{LARGEST_PART, PRIMES, Ratio};
+use std::array;
 
 /// A number taken apart: how often each of the six primes divides it, and what is left without them.
 #[derive(Clone, Copy)]
 struct Factors {
     multiplicities: [u8; 6],
     rest: u64,
+    ghost few: { All (λ k. k < 32) multiplicities },
+    ghost left: { Without primes rest },
 }
 
 impl Ratio {
@@ -42,7 +45,7 @@ impl Ratio {
             return Err(RatioFault::PrimeLeft);
         }
         Ok(Ratio {
-            exponents: differences(&above.multiplicities, &below.multiplicities),
+            exponents: above.minus(&below),
         })
     }
 }
@@ -50,24 +53,32 @@ impl Ratio {
 impl Factors {
     fn of(number: u64) -> Factors
         requires { (0 < number) × (number ≤ 4294967295) }
-        ensures factored { Factored number result.multiplicities result.rest }
-        ensures few { AllByRecursion (λ k. k < 32) result.multiplicities }
+        ensures { number ≡ product primes result.multiplicities * result.rest }
     {
-        let mut multiplicities = [0; 6];
+        let mut powers = PRIMES.map(|prime| (prime, 0));
         let mut rest = number;
-        for place in 0..6 {
-            let (times, left) = divided_out(rest, u64::from(PRIMES[place]));
-            multiplicities[place] = times;
-            rest = left;
+        for (prime, times) in &mut powers {
+            (*times, rest) = divided_out(rest, u64::from(*prime));
         }
         Factors {
-            multiplicities,
+            multiplicities: powers.map(|(_, times)| times),
             rest,
         }
+    }
+
+    /// Place by place, how much more often a prime divides this number than the other.
+    fn minus(&self, other: &Factors) -> [i8; 6]
+        ensures { result ≡ minus self.now.multiplicities other.now.multiplicities }
+    {
+        // stays (no plainer): an array has no `zip`, so only a place tells which two multiplicities belong together
+        array::from_fn(|place| {
+            self.multiplicities[place] as i8 - other.multiplicities[place] as i8
+        })
     }
 }
 
 /// How often `prime` divides `number`, and what is left without it.
+#[tactic(auto, using(crate::proofs::Multiplicities::few_times, crate::proofs::Multiplicities::one_more, crate::proofs::Multiplicities::some_left, crate::proofs::Multiplicities::halves))]
 fn divided_out(number: u64, prime: u64) -> (u8, u64)
     requires { (0 < number) × (number ≤ 4294967295) × (1 < prime) }
     ensures parts { number ≡ prime ^ result.0 * result.1 }
@@ -81,16 +92,4 @@ fn divided_out(number: u64, prime: u64) -> (u8, u64)
         times += 1;
     }
     (times, rest)
-}
-
-/// Place by place, how much more often a prime divides above than below.
-fn differences(above: &[u8; 6], below: &[u8; 6]) -> [i8; 6]
-    requires { AllByRecursion (λ k. k < 32) above.now × AllByRecursion (λ k. k < 32) below.now }
-    ensures { result ≡ minus above.now below.now }
-{
-    let mut exponents = [0; 6];
-    for place in 0..6 {
-        exponents[place] = above[place] as i8 - below[place] as i8;
-    }
-    exponents
 }

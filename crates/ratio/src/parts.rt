@@ -8,6 +8,7 @@ use crate::ratio::Ratio;
 
 impl Ratio {
     /// The ratio 1/1.
+    #[tactic(auto, using(crate::proofs::Same::same_ratio))]
     pub fn unison() -> Ratio
         ensures { result ≡ unison }
     {
@@ -24,6 +25,7 @@ impl Ratio {
     }
 
     /// This ratio with all factors 2 taken out, of the numerator and of the denominator.
+    #[tactic(auto, using(crate::proofs::Same::same_ratio), unfolding(crate::specs::Parts::octaveless))]
     pub fn without_octaves(&self) -> Ratio
         ensures { result ≡ octaveless self.now }
     {

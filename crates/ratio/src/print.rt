@@ -13,10 +13,9 @@ impl Ratio {
         ensures { result ≡ numerator self.now.exponents }
     {
         let mut product = 1;
-        for place in 0..6 {
-            let exponent = self.exponents[place];
-            if exponent > 0 {
-                product *= PRIMES[place].pow(exponent as u32);
+        for (prime, exponent) in PRIMES.iter().zip(&self.exponents) {
+            if let Ok(times) = u32::try_from(*exponent) {
+                product *= prime.pow(times);
             }
         }
         product
@@ -34,11 +33,9 @@ impl Ratio {
     pub fn recip(&self) -> Ratio
         ensures { result.exponents ≡ map neg_ℤ self.now.exponents }
     {
-        let mut exponents = [0; 6];
-        for place in 0..6 {
-            exponents[place] = -self.exponents[place];
+        Ratio {
+            exponents: self.exponents.map(|exponent| -exponent),
         }
-        Ratio { exponents }
     }
 }
 

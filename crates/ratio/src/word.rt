@@ -86,6 +86,7 @@ impl Scanner {
 /// The numerator and the denominator of a ratio word as it writes them, not in lowest terms.
 ///
 /// A ratio word is 1 to 10 digits, a slash, and 1 to 10 digits; zeros may lead. Refuses every other word.
+#[tactic(auto, using(crate::proofs::Scans::run_more, crate::proofs::Scans::scan_reads))]
 pub fn read_parts(word: &[u8]) -> Option<(u64, u64)>
     ensures form { PartsRead word.now result }
 {

@@ -1,34 +1,36 @@
-use Rattle.std.proofs.Common.{◌≡◌, ◌+◌, ◌≤◌, [], ◌∷◌, ◌++◌, length, get_or, take, set, pos, neg_ℤ, sym, ap, ◌∙◌, subst, arith, length-set, rules}
-use Rattle.std.proofs.lemmas.List.{take_more_set, map_more}
+use Rattle.std.proofs.Common.{◌≡◌, ℕ, ◌<◌, ◌≤◌, map, length, get_or, ℤ, pos, ◌-ℤ◌, neg_ℤ, w8, to_z, of_z, sym, refl, ap, ◌∙◌, subst, arith, lit<, rules}
+use Rattle.std.specs.Array.{list_steps}
+use Rattle.std.proofs.lemmas.Iterator.Adapters.{serves_from_places}
+use Rattle.std.proofs.lemmas.Iterator.Consumers.{YieldsList-from_shown}
 use Rattle.ratio.specs.Products.{numerator, denominator}
-use Rattle.ratio.proofs.Terms.{turned, all_turned, small_exponent, numerator_neg, denominator_neg}
+use Rattle.ratio.proofs.Multiplicities.{mapped}
+use Rattle.ratio.proofs.Terms.{turned, small_exponent, numerator_neg, denominator_neg}
 use Rattle.ratio.proofs.ratio.Ratio.recip.Goals as goal
+use Rattle.ratio.proofs.ratio.Ratio.recip.Goals.{After-map}
 
-pub overflow_sub-exponents : goal.overflow_sub-exponents
-overflow_sub-exponents c =
+pub map-requires : goal.map-requires
+map-requires c =
     let r = c.args.self.now in
-    let i = c.loop-place.place in
-    (turned (get_or r.exponents i (pos 0)) (search rules) (small_exponent r i c.loop-place-test.true)).0
+    let all = YieldsList-from_shown list_steps (λ e. e) (λ es. es) (λ s t h. ap length h) (λ s e t h. h) r.exponents in
+    let fits = λ (e : ℤ) (k : ℕ) (h : k < length r.exponents) (at : e ≡ get_or r.exponents k e). (turned e (rw at (small_exponent r k e (omega (arith, r.six))))).0 in
+    (lit< tt, (lit< tt, (lit< tt, serves_from_places all (λ e q u. refl) (λ e k h at. search (rules, fits e k h at)))))
 
-pub loop-place-preserved : goal.loop-place-preserved
-loop-place-preserved c =
-    let r = c.args.self.now in
-    let i = c.loop-place.place in
-    let long : length r.exponents ≡ 6 = r.six in
-    let held : length c.loop-place.exponents ≡ 6 = c.loop-place.invariant.0 in
-    let is = (turned (get_or r.exponents i (pos 0)) (search rules) (small_exponent r i c.loop-place-test.true)).1 in
-    let written = ap (λ e. take (i + 1) (set c.loop-place.exponents i e)) is in
-    let set_more = take_more_set c.loop-place.exponents i (neg_ℤ (get_or r.exponents i (pos 0))) (omega arith) in
-    let before = ap (λ es. es ++ neg_ℤ (get_or r.exponents i (pos 0)) ∷ []) c.loop-place.invariant.1 in
-    let neg_more = map_more neg_ℤ r.exponents i (pos 0) (omega arith) in
-    (length-set _ _ _ ∙ held, written ∙ set_more ∙ before ∙ sym neg_more)
+all_turned : (c : After-map) → c.map.result ≡ map neg_ℤ c.args.self.now.exponents
+all_turned c = mapped neg_ℤ c.args.self.now.exponents c.map.result (pos 0) (pos 0) (omega (arith, c.map.ensures.items.long, c.args.self.now.six)) (λ i h.
+    let e = get_or c.args.self.now.exponents i (pos 0) in
+    let is : get_or c.map.result i (pos 0) ≡ to_z w8 (of_z w8 (pos 0 -ℤ to_z w8 (of_z w8 e))) = search (rules, c.map.ensures.items.at i (pos 0) (pos 0) (omega (arith, c.args.self.now.six))) in
+    is ∙ (turned e (small_exponent c.args.self.now i (pos 0) (omega (arith, c.args.self.now.six)))).1)
+
+-- It stands before the invariant, since a wrong body is told of at the first answer that fails.
+pub returns : goal.returns
+returns c = all_turned (goal.at.returns c).After-map
 
 pub invariant_of-result : goal.invariant_of-result
 invariant_of-result c =
     let r = c.args.self.now in
-    let is = sym (all_turned c.loop-place.place c.loop-place.exponents r.exponents c.loop-place-test.false c.loop-place.invariant.0 r.six c.loop-place.invariant.1) in record { six = c.loop-place.invariant.0; numerator_fits = subst (λ es. numerator es ≤ 4294967295) is (subst (λ n. n ≤ 4294967295) (sym (numerator_neg r.exponents)) r.denominator_fits); denominator_fits = subst (λ es. denominator es ≤ 4294967295) is (subst (λ n. n ≤ 4294967295) (sym (denominator_neg r.exponents)) r.numerator_fits) }
-
-pub returns : goal.returns
-returns c =
-    let r = c.args.self.now in
-    all_turned c.loop-place.place c.loop-place.exponents r.exponents c.loop-place-test.false c.loop-place.invariant.0 r.six c.loop-place.invariant.1
+    let is = sym (all_turned (goal.at.invariant_of-result c).After-map) in
+    record {
+      six = omega (arith, c.map.ensures.items.long);
+      numerator_fits = subst (λ es. numerator es ≤ 4294967295) is (subst (λ n. n ≤ 4294967295) (sym (numerator_neg r.exponents)) r.denominator_fits);
+      denominator_fits = subst (λ es. denominator es ≤ 4294967295) is (subst (λ n. n ≤ 4294967295) (sym (denominator_neg r.exponents)) r.numerator_fits);
+    }

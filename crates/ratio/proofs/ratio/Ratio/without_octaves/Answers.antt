@@ -1,6 +1,5 @@
-use Rattle.std.proofs.Common.{refl, ◌∙◌, length-set}
+use Rattle.std.proofs.Common.{◌∙◌, length-set}
 use Rattle.ratio.specs.Parts.{octaveless}
-use Rattle.ratio.proofs.Same.{same_ratio}
 use Rattle.ratio.proofs.ratio.Ratio.without_octaves.Goals as goal
 
 pub invariant_of-result : goal.invariant_of-result
@@ -9,7 +8,3 @@ invariant_of-result c =
     let r = c.args.self.now in
     let left = octaveless r in
     record { six = length-set _ _ _ ∙ r.six; numerator_fits = left.numerator_fits; denominator_fits = left.denominator_fits }
-
-pub returns : goal.returns
-unfolding octaveless
-returns c = same_ratio _ _ refl
