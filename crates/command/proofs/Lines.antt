@@ -1,11 +1,10 @@
 -- The words that a line holds, with their columns.
-use Rattle.std.proofs.Common.{◌≡◌, ℕ, suc, ◌+◌, ◌-◌, ◌≤◌, min, ◌||◌, Bool, false, eqb, List, [], ◌∷◌, map, length, get_or, take, drop, sym, refl, ap, ◌∙◌, arith, rules, tests, ◌≢◌, length-take}
+use Rattle.std.proofs.Common.{◌≡◌, ℕ, suc, ◌+◌, ◌-◌, ◌≤◌, min, List, [], ◌∷◌, map, length, get_or, take, drop, sym, refl, ap, ◌∙◌, arith, ◌≢◌, length-take}
 use lib.ListN.{length-map}
-use Rattle.std.specs.List.{AllByRecursion, list_any, slice_get}
-use Rattle.std.proofs.lemmas.Bool.Decides.{nat_tests}
+use Rattle.std.specs.List.{AllByRecursion, slice_get}
 use Rattle.std.proofs.lemmas.List.{take_all, take_rest, drop_more}
 use Rattle.command.specs.Reading.{verb_word, arguments, Begins, WellSpaced, Placed}
-use Rattle.command.specs.Telling.{views, columns_of}
+use Rattle.command.specs.Telling.{views, Full, columns_of}
 use Rattle.command.specs.Words.{words, placed}
 use Rattle.command.specs.declared.command.Verb.{Verb}
 use Rattle.command.specs.declared.command.Verb.TheVariants.{Tone, Try, Strike, Bound, Level, Settle}
@@ -42,32 +41,13 @@ one_to_three Settle = (omega arith, omega arith)
 
 -- ---- words that have bytes
 
-pub full_words : (ws : List Word) → AllByRecursion (λ w. w.bytes.now ≢ []) ws → AllByRecursion (λ w. w ≢ []) (map (λ w. w.bytes.now) ws)
+pub full_words : (ws : List Word) → Full ws → AllByRecursion (λ w. w ≢ []) (map (λ w. w.bytes.now) ws)
 full_words [] h = tt
 full_words (w ∷ ws) h = (h.0, full_words ws h.1)
 
-words_full : (ws : List Word) → AllByRecursion (λ w. w ≢ []) (map (λ w. w.bytes.now) ws) → AllByRecursion (λ w. w.bytes.now ≢ []) ws
+words_full : (ws : List Word) → AllByRecursion (λ w. w ≢ []) (map (λ w. w.bytes.now) ws) → Full ws
 words_full [] h = tt
 words_full (w ∷ ws) h = (h.0, words_full ws h.1)
-
--- whether the word has no bytes
-abbrev pub bare : Word → Bool
-bare w = eqb (length w.bytes.now) 0
-
-pub full_if_none : (ws : List Word) → list_any bare ws ≡ false → AllByRecursion (λ w. w.bytes.now ≢ []) ws
-full_if_none [] e = tt
-full_if_none (w ∷ ws) e =
-    let some : bare w ≡ false = grind arith in
-    let rest : list_any bare ws ≡ false = grind arith in
-    ((λ none. let n = ap length none in grind (arith, nat_tests)), full_if_none ws rest)
-
-pub none_if_full : (ws : List Word) → AllByRecursion (λ w. w.bytes.now ≢ []) ws → list_any bare ws ≡ false
-none_if_full [] h = refl
-none_if_full (w ∷ ws) h = some w.bytes.now h.0 (none_if_full ws h.1)
-  where
-    some : (bytes : List ℕ) → bytes ≢ [] → list_any bare ws ≡ false → eqb (length bytes) 0 || list_any bare ws ≡ false
-    some [] ne e = absurd (ne refl)
-    some (b ∷ bytes) ne e = search (rules, tests)
 
 -- ---- the name and the words behind it
 
@@ -95,7 +75,7 @@ module _ (line : List ℕ) (name : Word) (ws : List Word) (held : take 5 (placed
   words_are few = sym (placed_bytes 1 (words line)) ∙ ap (map (λ u. u.0)) (all_held few) ∙ views_bytes (name ∷ ws)
 
   -- a word without bytes is not well spaced
-  pub not_full : (v : Verb) → (AllByRecursion (λ w. w.bytes.now ≢ []) ws → ⊥) → WellSpaced line v → ⊥
+  pub not_full : (v : Verb) → (Full ws → ⊥) → WellSpaced line v → ⊥
   not_full v f s =
       let are = words_are (omega (arith, s.count, (one_to_three v).1)) in
       let single = s.single in

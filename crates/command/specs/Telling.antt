@@ -14,6 +14,10 @@ use Rattle.command.specs.declared.word.Word.{Word}
 abbrev pub views : List Word → List (List ℕ × ℕ)
 views ws = map (λ w. (w.bytes.now, w.column)) ws
 
+-- each word has a byte
+abbrev pub Full : List Word → Type 0
+Full ws = AllByRecursion (λ w. w.bytes.now ≢ []) ws
+
 -- the reader's value, or the fault that the word at this column lacks its form, where the reader gives none
 abbrev pub FormRead : {A : Type 0} → (Option A → Type 0) → ℕ → Result A TextFault → Type 0
 FormRead P column (Ok x) = P (Some x)
@@ -29,7 +33,7 @@ Named w (Err f) = (f ≡ NoCommand) × ((v : Verb) → w ≢ verb_word v)
 pub record Given (line : List ℕ) (v : Verb) (name : Word) (ws : List Word) : Type 0 where
   pub begins : Begins line v
   pub held : take 5 (placed 1 (words line)) ≡ views (name ∷ ws)
-  pub full : AllByRecursion (λ w. w.bytes.now ≢ []) ws
+  pub full : Full ws
 
 -- what the command and the words behind it are read as, whatever line holds them
 pub record Tell (v : Verb) (ws : List Word) (r : Result Step TextFault) : Type 0 where

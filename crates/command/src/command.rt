@@ -7,7 +7,7 @@ ghost use Rattle.command.specs.Words.{CutAtSpaces};
 
 use crate::fault::TextFault;
 use crate::form::{read_cents, read_number, read_place};
-use crate::word::Word;
+use crate::word::{Word, first_words, full};
 use draft::call::Call;
 use lines::line::LONGEST_LINE;
 use ratio::word::read_parts;
@@ -127,12 +127,12 @@ impl Command {
         if line.len() > LONGEST_LINE {
             return Err(TextFault::TooLong);
         }
-        let words = Word::all_of(line);
+        let words = first_words(line);
         let [name, behind @ ..] = words.as_slice() else {
             return Err(TextFault::NoCommand);
         };
         let verb = Verb::try_from(name.bytes)?;
-        if behind.iter().any(|word| word.bytes.is_empty()) {
+        if !full(behind) {
             return Err(TextFault::WrongWords);
         }
         Ok(Command {

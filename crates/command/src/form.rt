@@ -5,12 +5,15 @@ ghost use Rattle.command.specs.Forms.{NumberRead, CentsRead};
 ghost use Rattle.command.specs.Unsigned.{UnsignedRead};
 ghost use Rattle.lines.specs.Decimals.{signed_decimals};
 
+/// The most digits that a number may have.
+const MOST_DIGITS: usize = 10;
+
 /// The number that a word of 1 to 10 digits writes; zeros may lead. Refuses every other word.
 pub fn read_number(word: &[u8]) -> Option<u64>
     ensures form { NumberRead word.now result }
     ensures again { (n : ℕ) → n < 10 ^ 10 → word.now ≡ decimal n → result ≡ Some n }
 {
-    if word.len() > 10 || !word.iter().all(|byte| byte.is_ascii_digit()) {
+    if word.len() > MOST_DIGITS || !word.iter().all(|byte| byte.is_ascii_digit()) {
         return None;
     }
     str::from_utf8(word).ok()?.parse().ok()

@@ -1,7 +1,7 @@
 //! The words of a line, each with its column.
 
-ghost use Rattle.std.specs.Prelude.{◌≡◌, take};
-ghost use Rattle.command.specs.Telling.{FormRead, views};
+ghost use Rattle.std.specs.Prelude.{◌≡◌, take, Decides};
+ghost use Rattle.command.specs.Telling.{FormRead, Full, views};
 ghost use Rattle.command.specs.Words.{words, placed};
 ghost use Rattle.places.specs.Listed.{listed};
 
@@ -9,7 +9,7 @@ use crate::fault::TextFault;
 use places::Places;
 
 /// How many words of a line are told apart: one more than the longest command has.
-pub(crate) const MOST_WORDS: usize = 5;
+const MOST_WORDS: usize = 5;
 
 /// A word: its stretch of the line, and the column of its first byte, counted from 1.
 #[derive(Clone, Copy)]
@@ -18,25 +18,32 @@ pub(crate) struct Word<'a> {
     pub(crate) column: usize,
 }
 
-impl<'a> Word<'a> {
-    /// The first words of the line, as many as are told apart.
-    pub(crate) fn all_of(line: &'a [u8]) -> Places<Word<'a>, MOST_WORDS>
-        ensures { views (listed result) ≡ take MOST_WORDS (placed 1 (words line.now)) }
-    {
-        let mut column = 1;
-        let mut words = Places::empty(Word {
-            bytes: line,
-            column,
-        });
-        for bytes in line.split(|byte| *byte == b' ') {
-            if words.push(Word { bytes, column }).is_err() {
-                break;
-            }
-            column += bytes.len() + 1;
+/// The first words of the line, as many as are told apart.
+pub(crate) fn first_words(line: &[u8]) -> Places<Word<'_>, MOST_WORDS>
+    ensures { views (listed result) ≡ take MOST_WORDS (placed 1 (words line.now)) }
+{
+    let mut words = Places::empty(Word {
+        bytes: &[],
+        column: 0,
+    });
+    let mut column = 1;
+    for bytes in line.split(|byte| *byte == b' ') {
+        if words.push(Word { bytes, column }).is_err() {
+            break;
         }
-        words
+        column += bytes.len() + 1;
     }
+    words
+}
 
+/// Whether each of the words has a byte, as it has if no space stands beside another or at the end.
+pub(crate) fn full(words: &[Word<'_>]) -> bool
+    ensures { Decides result (Full words.now) }
+{
+    words.iter().all(|word| !word.bytes.is_empty())
+}
+
+impl Word<'_> {
     /// What a reader of its form reads the word as.
     pub(crate) fn read<T, F: FnOnce(&[u8]) -> Option<T>>(self, reader: F) -> Result<T, TextFault>
         requires { F.IsAlwaysCallable reader }

@@ -1,27 +1,25 @@
-use Rattle.std.proofs.Common.{[], Err, length, take, drop, get_or, rules, tests, ap, ◌∙◌, ◌-◌}
-use Rattle.std.proofs.lemmas.Iterator.{YieldsList-from_slice}
+use Rattle.std.proofs.Common.{refl, [], Err, length, take, drop, get_or, rules, ap, ◌∙◌, ◌-◌}
+use Rattle.std.proofs.lemmas.Bool.Decides.{not_from_Decides}
 use Rattle.std.proofs.lemmas.Result.{err_from_is_err_and}
-use Rattle.std.proofs.lemmas.Iterator.Search.{any_from_yields_List}
 use Rattle.command.specs.declared.word.Word.{Word}
 use Rattle.command.specs.Reading.{verb_of}
 use Rattle.command.specs.Telling.{Given}
 use Rattle.command.proofs.Cutting.{cut_at_spaces}
-use Rattle.command.proofs.Lines.{bare, full_if_none, none_if_full, parted, begun, not_full, columns_placed}
+use Rattle.command.proofs.Lines.{parted, begun, not_full, columns_placed}
 use Rattle.command.proofs.command.Command.read.Goals as goal
 
 abbrev blank : Word
 blank = record { bytes = record { ref_ptr = (0, 0); now = [] }; column = 0 }
 
-pub returns-then-any-clause-read : goal.returns-then-any-clause-read
-returns-then-any-clause-read c =
+pub returns-then-not-full-clause-read : goal.returns-then-not-full-clause-read
+returns-then-not-full-clause-read c =
     let line = c.args.line.now in
     let s = c.as_slice.result.now in
     let ws = take (length s - 1) (drop 1 s) in
     let name = get_or s 0 blank in
     let v = c.in_ok-verb.verb in
     let held = parted line s blank (search rules) (search rules) in
-    let any = any_from_yields_List bare _ _ c.any.result c.any.ensures.ran (YieldsList-from_slice ws cc) (λ x b q k. search (rules, tests)) in
-    (v, (begun line name ws held v (search rules) c.in_ok-verb.ensures, not_full line name ws held v (λ f. let none = none_if_full ws f in cc)))
+    (v, (begun line name ws held v (search rules) c.in_ok-verb.ensures, not_full line name ws held v (not_from_Decides c.full.result c.full.ensures c.if-not-full.true)))
 
 pub returns-in_err-step-clause-read : goal.returns-in_err-step-clause-read
 returns-in_err-step-clause-read c =
@@ -31,8 +29,7 @@ returns-in_err-step-clause-read c =
     let name = get_or s 0 blank in
     let v = c.in_ok-verb.verb in
     let held = parted line s blank (search rules) (search rules) in
-    let any = any_from_yields_List bare _ _ c.any.result c.any.ensures.ran (YieldsList-from_slice ws cc) (λ x b q k. search (rules, tests)) in
-    let given : Given line v name ws = record { begins = begun line name ws held v (search rules) c.in_ok-verb.ensures; held = held; full = full_if_none ws cc } in
+    let given : Given line v name ws = record { begins = begun line name ws held v (search rules) c.in_ok-verb.ensures; held = held; full = c.if-not-full.ensures.0 refl } in
     let p = err_from_is_err_and c.from_residual-in_err-step.result c.from_residual-in_err-step.ensures.1 in
     rw (p.1 ∙ ap Err p.2) (c.in_err-step.ensures.told line name given)
 
@@ -44,8 +41,7 @@ returns c =
     let name = get_or s 0 blank in
     let v = c.in_ok-verb.verb in
     let held = parted line s blank (search rules) (search rules) in
-    let any = any_from_yields_List bare _ _ c.any.result c.any.ensures.ran (YieldsList-from_slice ws cc) (λ x b q k. search (rules, tests)) in
-    let given : Given line v name ws = record { begins = begun line name ws held v (search rules) c.in_ok-verb.ensures; held = held; full = full_if_none ws cc } in
+    let given : Given line v name ws = record { begins = begun line name ws held v (search rules) c.in_ok-verb.ensures; held = held; full = c.if-not-full.ensures.0 refl } in
     let told = c.in_ok-step.ensures.told line name given in
     record { read = told; placed = rw c.of.ensures (columns_placed line name ws held (verb_of c.in_ok-step.field-0) told.1); cut = cut_at_spaces line }
 
@@ -58,8 +54,8 @@ returns-in_default-clause-cut c = cut_at_spaces c.args.line.now
 pub returns-in_err-verb-clause-cut : goal.returns-in_err-verb-clause-cut
 returns-in_err-verb-clause-cut c = cut_at_spaces c.args.line.now
 
-pub returns-then-any-clause-cut : goal.returns-then-any-clause-cut
-returns-then-any-clause-cut c = cut_at_spaces c.args.line.now
+pub returns-then-not-full-clause-cut : goal.returns-then-not-full-clause-cut
+returns-then-not-full-clause-cut c = cut_at_spaces c.args.line.now
 
 pub returns-in_err-step-clause-cut : goal.returns-in_err-step-clause-cut
 returns-in_err-step-clause-cut c = cut_at_spaces c.args.line.now

@@ -1,7 +1,7 @@
 use Rattle.std.proofs.Common.{length}
 use Rattle.places.specs.Listed.{listed}
 use Rattle.command.proofs.Cutting.{Held}
-use Rattle.command.proofs.word.Word.all_of.Given as goal
+use Rattle.command.proofs.word.first_words.Given as goal
 
 abbrev pub invariant-loop-bytes : goal.invariant-loop-bytes
 invariant-loop-bytes l =
