@@ -1,7 +1,7 @@
 -- What a word of cents writes.
-use Rattle.std.proofs.Common.{◌≡◌, ℕ, suc, ◌+◌, ◌-◌, ◌*◌, ◌/◌, ◌^◌, ◌<◌, ◌≤◌, Bool, true, false, List, [], ◌∷◌, ◌++◌, length, get_or, take, drop, ℤ, pos, negsuc, neg_ℤ, nat_abs, Some, None, decimal, Option, sym, refl, ap, ◌∙◌, subst, arith, length-append, length-drop, length-take}
+use Rattle.std.proofs.Common.{◌≡◌, ℕ, suc, ◌+◌, ◌-◌, ◌*◌, ◌/◌, ◌^◌, ◌<◌, ◌≤◌, Bool, true, false, List, [], ◌∷◌, ◌++◌, length, get_or, take, drop, ℤ, pos, negsuc, neg_ℤ, nat_abs, Some, None, decimal, Option, sym, refl, ap, ◌∙◌, subst, arith, append_assoc, length-append, length-drop, length-take}
 use Rattle.std.proofs.lemmas.Fmt.{length-decimal-le, decimal_nonempty}
-use Rattle.std.proofs.lemmas.List.{take-append-drop, take_at, get_or_at, drop_at, drop-drop, drop_more, take_rest}
+use Rattle.std.proofs.lemmas.List.{take-append-drop, take_at, drop_at, drop_more, drop_all, take_rest}
 use Rattle.std.proofs.lemmas.Str.Parse.{digits_value_short}
 use Rattle.lines.specs.Decimals.{last_digits, with_decimals, signed_decimals}
 use Rattle.lines.proofs.Decimals.{decimals_read, last_digits_are}
@@ -41,45 +41,44 @@ value_joined a b e = value_after 0 a b ∙ three_after (value a) b e
 
 -- ---- without a minus
 
--- the parts of a word of cents stand where its length says
-pub record Parts (w a b : List ℕ) : Type 0 where
-  pub long : (5 ≤ length w) × (length w ≤ 9)
-  pub wholes : a ≡ take (length w - 4) w
-  pub period : get_or w (length w - 4) 0 ≡ 46
-  pub thousandths : b ≡ drop (length w - 4 + 1) w
+-- a period stands between these two parts of a word, of which the second has three bytes
+pub record Parted (w a b : List ℕ) : Type 0 where
+  pub three : length b ≡ 3
+  pub joined : w ≡ a ++ (46 ∷ b)
 
-pub parts : (w a b : List ℕ) → CentsWord w false a b → Parts w a b
-parts w a b h =
-    let n : ℕ = length w - 4 in
-    let all = ap length h.joined ∙ length-append a (46 ∷ b) in
-    let len : length a ≡ n = omega (arith, all, h.three, h.some) in
+-- the last three bytes of a word, and what stands before a period before them
+pub parted : (w front b : List ℕ) → front ≡ take (length w - 3) w → b ≡ drop (length w - 3) w → 1 ≤ length front → get_or front (length front - 1) 0 ≡ 46 → Parted w (take (length front - 1) front) b
+parted w front b f t some e =
+    let k : ℕ = length front - 1 in
+    let last = drop_more front k 0 (omega arith) in
+    let none = drop_all (k + 1) front (omega arith) in
+    let whole : front ≡ take k front ++ (46 ∷ []) = cc (take-append-drop k front, last, none, e) in
+    let joined : w ≡ front ++ b = cc (take-append-drop (length w - 3) w) in
     record {
-      long = (omega (arith, all, h.three, h.some), omega (arith, all, h.three, h.few));
-      wholes = sym (ap (take n) h.joined ∙ take_at a (46 ∷ b) n len);
-      period = ap (λ l. get_or l n 0) h.joined ∙ get_or_at a 46 b 0 n len;
-      thousandths = sym (sym (drop-drop 1 n w) ∙ ap (λ l. drop 1 (drop n l)) h.joined ∙ ap (drop 1) (drop_at a (46 ∷ b) n len));
+      three = omega (arith, ap length f, ap length t, length-take (length w - 3) w, length-drop (length w - 3) w);
+      joined = joined ∙ ap (λ l. l ++ b) whole ∙ append_assoc (take k front) (46 ∷ []) b;
     }
 
--- the wholes are a numeral, and so are the thousandths
-pub wholes_numeral : (w a b : List ℕ) → CentsWord w false a b → Numeral a
-wholes_numeral w a b h = record { some = h.some; few = omega (arith, h.few); digits = digits_front a b h.digits }
+-- it is parted in one way
+same_parts : (a b a' b' : List ℕ) → a ++ (46 ∷ b) ≡ a' ++ (46 ∷ b') → length b ≡ length b' → (a ≡ a') × (b ≡ b')
+same_parts a b a' b' e n =
+    let len : length a ≡ length a' = omega (arith, ap length e, length-append a (46 ∷ b), length-append a' (46 ∷ b')) in
+    let front = ap (take (length a')) e in
+    let back = ap (drop (length a')) e in
+    (cc (front, take_at a (46 ∷ b) (length a') len, take_at a' (46 ∷ b') (length a') refl), cc (back, drop_at a (46 ∷ b) (length a') len, drop_at a' (46 ∷ b') (length a') refl))
 
-pub thousandths_numeral : (w a b : List ℕ) → CentsWord w false a b → Numeral b
-thousandths_numeral w a b h = record { some = omega (arith, h.three); few = omega (arith, h.three); digits = digits_back a b h.digits }
+-- the parts of a word of cents are numerals
+pub numerals : (w a b x y : List ℕ) → Parted w a b → CentsWord w false x y → Numeral a × Numeral b
+numerals w a b x y p h =
+    let same = same_parts a b x y (sym p.joined ∙ h.joined) (p.three ∙ sym h.three) in
+    rw (same.0, same.1) (
+      record { some = h.some; few = omega (arith, h.few); digits = digits_front x y h.digits },
+      record { some = omega (arith, h.three); few = omega (arith, h.three); digits = digits_back x y h.digits },
+    )
 
--- a word with numerals where its length says, and a period between them, is a word of cents
-pub from_parts : (w a b : List ℕ) → Parts w a b → Numeral a → Numeral b → CentsWord w false a b
-from_parts w a b p m n =
-    let k : ℕ = length w - 4 in
-    let front : length a ≡ k = ap length p.wholes ∙ omega (arith, length-take k w, p.long.0) in
-    let back : length b ≡ 3 = ap length p.thousandths ∙ omega (arith, length-drop (k + 1) w, p.long.0) in
-    record {
-      some = omega (arith, p.long.0);
-      few = omega (arith, p.long.1);
-      three = back;
-      digits = digits_joined a b m.digits n.digits;
-      joined = cc (take-append-drop k w, drop_more w k 0 (omega (arith, p.long.0)), p.wholes, p.period, p.thousandths);
-    }
+-- a word with numerals for parts is a word of cents, if the first is short enough
+pub from_numerals : (w a b : List ℕ) → Parted w a b → length a ≤ 5 → Numeral a → Numeral b → CentsWord w false a b
+from_numerals w a b p few m n = record { some = m.some; few = few; three = p.three; digits = digits_joined a b m.digits n.digits; joined = p.joined }
 
 -- how large the numbers are that few digits write
 pub number_below : (w : List ℕ) (n k : ℕ) → NumberRead w (Some n) → length w ≤ k → n < 10 ^ k
@@ -130,10 +129,7 @@ plain_read w (Some p) none h = (false, h)
 -- ---- a word is read in one way
 
 same_unsigned : (w a b a' b' : List ℕ) → CentsWord w false a b → CentsWord w false a' b' → (a ≡ a') × (b ≡ b')
-same_unsigned w a b a' b' h g =
-    let p = parts w a b h in
-    let q = parts w a' b' g in
-    (p.wholes ∙ sym q.wholes, p.thousandths ∙ sym q.thousandths)
+same_unsigned w a b a' b' h g = same_parts a b a' b' (sym h.joined ∙ g.joined) (h.three ∙ sym g.three)
 
 cents_once : (w : List ℕ) (m m' : Bool) (a b a' b' : List ℕ) → CentsWord w m a b → CentsWord w m' a' b' → cents m a b ≡ cents m' a' b'
 cents_once w false false a b a' b' h g =

@@ -1,6 +1,5 @@
-pub mod Cutting
 pub mod Numbers
 pub mod Cents
-pub mod Spelling
-pub mod Telling
 pub mod Lines
+pub mod Cutting
+pub mod Telling

@@ -1,67 +1,37 @@
--- What a whole line is read as, by the words that it holds.
-use Rattle.std.proofs.Common.{◌≡◌, ℕ, ◌<◌, ◌≤◌, ◌⊎◌, List, [], ◌∷◌, length, sym, refl, ◌∙◌, subst, inl, inr, arith}
-use Rattle.std.specs.List.{AllByRecursion}
-use Rattle.command.specs.Cutting.{view, HoldsBehind, listed, Full}
+-- The words that a line holds, with their columns.
+use Rattle.std.proofs.Common.{◌≡◌, ℕ, suc, ◌+◌, ◌-◌, ◌≤◌, min, List, [], ◌∷◌, map, length, get_or, take, drop, sym, refl, ap, ◌∙◌, arith, ◌≢◌, length-take}
+use lib.ListN.{length-map}
+use Rattle.std.specs.List.{AllByRecursion, slice_get}
+use Rattle.std.proofs.lemmas.List.{take_all, take_rest, drop_more}
 use Rattle.command.specs.Reading.{verb_word, arguments, Begins, WellSpaced, Placed}
-use Rattle.command.specs.Telling.{views, Given, columns_of}
-use Rattle.command.specs.Words.{words, placed, word}
+use Rattle.command.specs.Telling.{views, Full, columns_of}
+use Rattle.command.specs.Words.{words, placed}
 use Rattle.command.specs.declared.command.Verb.{Verb}
 use Rattle.command.specs.declared.command.Verb.TheVariants.{Tone, Try, Strike, Bound, Level, Settle}
-use Rattle.command.specs.declared.word.Behind.{Behind}
-use Rattle.command.specs.declared.word.Behind.TheVariants.{Nothing, One, Two, Three, More}
 use Rattle.command.specs.declared.word.Word.{Word}
-use Rattle.command.proofs.Telling.{bytes, words_are, word_is, column_at_is, miscounted}
 
--- the name is the first word
-pub name_word : (line : List ℕ) (name : Word) (b : Behind) → HoldsBehind line name b → word line 0 ≡ name.bytes.now
-name_word line name Nothing h = word_is line (view name ∷ []) h 0
-name_word line name (One a) h = word_is line (view name ∷ views (a ∷ [])) h 0
-name_word line name (Two a b) h = word_is line (view name ∷ views (a ∷ (b ∷ []))) h 0
-name_word line name (Three a b c) h = word_is line (view name ∷ views (a ∷ (b ∷ (c ∷ [])))) h 0
-name_word line name More h = word_is line (view name ∷ h.0) h.1.0 0
+-- ---- words with columns
 
--- the line begins with the command that the name tells
-pub begins : (line : List ℕ) (v : Verb) (name : Word) (b : Behind) → length line ≤ 80 → HoldsBehind line name b → name.bytes.now ≡ verb_word v → Begins line v
-begins line v name b short h e = record { short = short; named = name_word line name b h ∙ e }
+placed_bytes : (column : ℕ) (ws : List (List ℕ)) → map (λ v. v.0) (placed column ws) ≡ ws
+placed_bytes column [] = refl
+placed_bytes column (w ∷ ws) = ap (λ vs. w ∷ vs) (placed_bytes (column + length w + 1) ws)
 
--- ---- the words that a command is given
+pub length-placed : (column : ℕ) (ws : List (List ℕ)) → length (placed column ws) ≡ length ws
+length-placed column ws = sym (length-map (placed column ws) (λ v. v.0)) ∙ ap length (placed_bytes column ws)
 
-module _ (line : List ℕ) (v : Verb) (name : Word) (behind : Behind) (begun : Begins line v) (holds : HoldsBehind line name behind) (full : Full (listed behind)) where
-  pub one_given : (a : Word) → behind ≡ (One a) → Given line v name (a ∷ [])
-  one_given a e = record { begins = begun; held = subst (HoldsBehind line name) e holds; full = subst (λ b. Full (listed b)) e full }
+views_bytes : (ws : List Word) → map (λ v. v.0) (views ws) ≡ map (λ w. w.bytes.now) ws
+views_bytes [] = refl
+views_bytes (w ∷ ws) = ap (λ vs. w.bytes.now ∷ vs) (views_bytes ws)
 
-  pub two_given : (a b : Word) → behind ≡ (Two a b) → Given line v name (a ∷ (b ∷ []))
-  two_given a b e = record { begins = begun; held = subst (HoldsBehind line name) e holds; full = subst (λ b. Full (listed b)) e full }
+pub views_columns : (ws : List Word) → map (λ v. v.1) (views ws) ≡ map (λ w. w.column) ws
+views_columns [] = refl
+views_columns (w ∷ ws) = ap (λ vs. w.column ∷ vs) (views_columns ws)
 
-  pub three_given : (a b c : Word) → behind ≡ (Three a b c) → Given line v name (a ∷ (b ∷ (c ∷ [])))
-  three_given a b c e = record { begins = begun; held = subst (HoldsBehind line name) e holds; full = subst (λ b. Full (listed b)) e full }
+pub length-views : (ws : List Word) → length (views ws) ≡ length ws
+length-views ws = length-map {B = List ℕ × ℕ} ws (λ w. (w.bytes.now, w.column))
 
--- ---- wrong spaces
-
-some : (w : List ℕ) → (w ≡ [] → ⊥) → 0 < length w
-some [] ne = absurd (ne refl)
-some (c ∷ w) ne = omega arith
-
-full_from : (ws : List Word) → AllByRecursion (λ w. w ≡ [] → ⊥) (bytes (views ws)) → Full ws
-full_from [] h = tt
-full_from (w ∷ ws) h = (some w.bytes.now h.0, full_from ws h.1)
-
-not_full_by : (line : List ℕ) (v : Verb) (name : Word) (ws : List Word) → placed 1 (words line) ≡ view name ∷ views ws → (Full ws → ⊥) → WellSpaced line v → ⊥
-not_full_by line v name ws h f s =
-    let all = subst (λ us. AllByRecursion (λ w. w ≡ [] → ⊥) us) (words_are line (view name ∷ views ws) h) s.single in
-    f (full_from ws all.1)
-
--- a word without bytes
-pub not_full : (line : List ℕ) (v : Verb) (name : Word) (b : Behind) → HoldsBehind line name b → (Full (listed b) → ⊥) → WellSpaced line v → ⊥
-not_full line v name Nothing h f s = f tt
-not_full line v name (One a) h f s = not_full_by line v name (a ∷ []) h f s
-not_full line v name (Two a b) h f s = not_full_by line v name (a ∷ (b ∷ [])) h f s
-not_full line v name (Three a b c) h f s = not_full_by line v name (a ∷ (b ∷ (c ∷ []))) h f s
-not_full line v name More h f s = f tt
-
--- ---- wrong numbers of words
-
-one_to_three : (v : Verb) → (1 ≤ arguments v) × (arguments v ≤ 3)
+-- a command has one word behind its name, two or three
+pub one_to_three : (v : Verb) → (1 ≤ arguments v) × (arguments v ≤ 3)
 one_to_three Tone = (omega arith, omega arith)
 one_to_three Try = (omega arith, omega arith)
 one_to_three Strike = (omega arith, omega arith)
@@ -69,28 +39,52 @@ one_to_three Bound = (omega arith, omega arith)
 one_to_three Level = (omega arith, omega arith)
 one_to_three Settle = (omega arith, omega arith)
 
-pub none_behind : (line : List ℕ) (v : Verb) (name : Word) → HoldsBehind line name Nothing → WellSpaced line v → ⊥
-none_behind line v name h s = miscounted line v [] (view name) h (λ e. omega (arith, (one_to_three v).0)) s
+-- ---- words that have bytes
 
-pub too_many : (line : List ℕ) (v : Verb) (name : Word) → HoldsBehind line name More → WellSpaced line v → ⊥
-too_many line v name h s = miscounted line v h.0 (view name) h.1.0 (λ e. omega (arith, (one_to_three v).1, h.1.1)) s
+pub full_words : (ws : List Word) → Full ws → AllByRecursion (λ w. w ≢ []) (map (λ w. w.bytes.now) ws)
+full_words [] h = tt
+full_words (w ∷ ws) h = (h.0, full_words ws h.1)
 
-pub wrong_number : (line : List ℕ) (v : Verb) (name : Word) (b : Behind) → (b ≡ Nothing) ⊎ (b ≡ More) → HoldsBehind line name b → WellSpaced line v → ⊥
-wrong_number line v name b (inl e) h = none_behind line v name (subst (HoldsBehind line name) e h)
-wrong_number line v name b (inr e) h = too_many line v name (subst (HoldsBehind line name) e h)
+words_full : (ws : List Word) → AllByRecursion (λ w. w ≢ []) (map (λ w. w.bytes.now) ws) → Full ws
+words_full [] h = tt
+words_full (w ∷ ws) h = (h.0, words_full ws h.1)
 
--- ---- the columns
+-- ---- the name and the words behind it
 
--- the columns of a command's words are those of the line
-pub columns_placed : (line : List ℕ) (v : Verb) (name : Word) (b : Behind) → HoldsBehind line name b → WellSpaced line v → Placed line (columns_of b)
-columns_placed line v name Nothing h s = absurd (none_behind line v name h s)
-columns_placed line v name (One a) h s =
-    let is = column_at_is line (view name ∷ views (a ∷ [])) h in
-    record { first = sym (is 1); second = sym (is 2); third = sym (is 3) }
-columns_placed line v name (Two a b) h s =
-    let is = column_at_is line (view name ∷ views (a ∷ (b ∷ []))) h in
-    record { first = sym (is 1); second = sym (is 2); third = sym (is 3) }
-columns_placed line v name (Three a b c) h s =
-    let is = column_at_is line (view name ∷ views (a ∷ (b ∷ (c ∷ [])))) h in
-    record { first = sym (is 1); second = sym (is 2); third = sym (is 3) }
-columns_placed line v name More h s = absurd (too_many line v name h s)
+first_is : (ws : List (List ℕ)) (v : List ℕ × ℕ) (vs : List (List ℕ × ℕ)) → take 5 (placed 1 ws) ≡ v ∷ vs → get_or ws 0 [] ≡ v.0
+first_is [] v vs e = absurd (omega (arith, ap length e))
+first_is (w ∷ ws) v vs e = cc e
+
+-- the first of the words that are told apart is the name, and the others stand behind it
+pub parted : (line : List ℕ) (ws : List Word) (d : Word) → views ws ≡ take 5 (placed 1 (words line)) → 1 ≤ length ws → take 5 (placed 1 (words line)) ≡ views (get_or ws 0 d ∷ take (length ws - 1) (drop 1 ws))
+parted line ws d e some = sym e ∙ ap views (drop_more ws 0 d some ∙ ap (λ us. get_or ws 0 d ∷ us) (sym (take_rest ws 1)))
+
+module _ (line : List ℕ) (name : Word) (ws : List Word) (held : take 5 (placed 1 (words line)) ≡ views (name ∷ ws)) where
+  pub begun : (v : Verb) → length line ≤ 80 → name.bytes.now ≡ verb_word v → Begins line v
+  begun v short e = record { short = short; named = first_is (words line) (name.bytes.now, name.column) (views ws) held ∙ e }
+
+  -- how many words are told apart
+  pub counted : suc (length ws) ≡ min 5 (length (words line))
+  counted = omega (arith, length-take 5 (placed 1 (words line)), ap length held, length-views (name ∷ ws), length-placed 1 (words line))
+
+  -- all words of the line, if they are not too many
+  pub all_held : length (words line) ≤ 5 → placed 1 (words line) ≡ views (name ∷ ws)
+  all_held few = sym (take_all 5 (placed 1 (words line)) (omega (arith, length-placed 1 (words line)))) ∙ held
+
+  pub words_are : length (words line) ≤ 5 → words line ≡ name.bytes.now ∷ map (λ w. w.bytes.now) ws
+  words_are few = sym (placed_bytes 1 (words line)) ∙ ap (map (λ u. u.0)) (all_held few) ∙ views_bytes (name ∷ ws)
+
+  -- a word without bytes is not well spaced
+  pub not_full : (v : Verb) → (Full ws → ⊥) → WellSpaced line v → ⊥
+  not_full v f s =
+      let are = words_are (omega (arith, s.count, (one_to_three v).1)) in
+      let single = s.single in
+      let all = rw are at single in
+      f (words_full ws all.1)
+
+  -- the columns of a command's words are those of the line
+  pub columns_placed : (v : Verb) → WellSpaced line v → Placed line (columns_of ws)
+  columns_placed v s =
+      let all = all_held (omega (arith, s.count, (one_to_three v).1)) in
+      let at = λ (k : ℕ). sym (ap (λ us. slice_get (map (λ u. u.1) us) (suc k)) all ∙ ap (λ us. slice_get us k) (views_columns ws)) in
+      record { first = at 0; second = at 1; third = at 2 }

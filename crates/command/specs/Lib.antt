@@ -2,6 +2,5 @@ pub mod Faults
 pub mod Words
 pub mod Forms
 pub mod Reading
-pub mod Cutting
 pub mod Unsigned
 pub mod Telling

@@ -1,50 +1,44 @@
 -- What the words of a line tell, one by one. Only private functions cite this.
-use Rattle.std.specs.Prelude.{◌≡◌, ℕ, List, [], ◌∷◌, Some, None, Ok, Err, Option, Result, ◌≢◌}
+use Rattle.std.specs.Prelude.{◌≡◌, ℕ, List, ◌∷◌, map, take, Some, None, Ok, Err, Option, Result, ◌≢◌, [], slice_get}
+use Rattle.std.specs.List.{AllByRecursion}
 use Rattle.settling.specs.declared.step.Step.{Step}
-use Rattle.command.specs.Cutting.{view, HoldsBehind, Full}
 use Rattle.command.specs.Reading.{verb_word, Begins, Read}
 use Rattle.command.specs.Words.{words, placed}
 use Rattle.command.specs.declared.command.Columns.{Columns}
 use Rattle.command.specs.declared.command.Verb.{Verb}
 use Rattle.command.specs.declared.fault.TextFault.{TextFault}
-use Rattle.command.specs.declared.fault.TextFault.TheVariants.{NoForm}
-use Rattle.command.specs.declared.word.Behind.{Behind}
-use Rattle.command.specs.declared.word.Behind.TheVariants.{Nothing, One, Two, Three, More}
+use Rattle.command.specs.declared.fault.TextFault.TheVariants.{NoCommand, NoForm}
 use Rattle.command.specs.declared.word.Word.{Word}
+
+-- words as plain data: each with its bytes and its column
+abbrev pub views : List Word → List (List ℕ × ℕ)
+views ws = map (λ w. (w.bytes.now, w.column)) ws
+
+-- each word has a byte
+abbrev pub Full : List Word → Type 0
+Full ws = AllByRecursion (λ w. w.bytes.now ≢ []) ws
 
 -- the reader's value, or the fault that the word at this column lacks its form, where the reader gives none
 abbrev pub FormRead : {A : Type 0} → (Option A → Type 0) → ℕ → Result A TextFault → Type 0
 FormRead P column (Ok x) = P (Some x)
 FormRead P column (Err f) = P None × (f ≡ NoForm column)
 
--- the command that a word names
-abbrev pub Named : List ℕ → Option Verb → Type 0
-Named w None = (v : Verb) → w ≢ verb_word v
-Named w (Some v) = w ≡ verb_word v
+-- the command that a word names, or the fault that it names none
+abbrev pub Named : List ℕ → Result Verb TextFault → Type 0
+Named w (Ok v) = w ≡ verb_word v
+Named w (Err f) = (f ≡ NoCommand) × ((v : Verb) → w ≢ verb_word v)
 
--- words with their columns
-abbrev pub views : List Word → List (List ℕ × ℕ)
-views [] = []
-views (w ∷ ws) = view w ∷ views ws
-
--- a line that begins with this command holds these words behind the name, and each has a byte
+-- a line that begins with this command has this name and these words behind it, of which at most four are told apart, and
+-- each of these has a byte
 pub record Given (line : List ℕ) (v : Verb) (name : Word) (ws : List Word) : Type 0 where
   pub begins : Begins line v
-  pub held : placed 1 (words line) ≡ view name ∷ views ws
+  pub held : take 5 (placed 1 (words line)) ≡ views (name ∷ ws)
   pub full : Full ws
 
 -- what the command and the words behind it are read as, whatever line holds them
-abbrev pub Tell : Verb → List Word → Result Step TextFault → Type 0
-Tell v ws r = (line : List ℕ) (name : Word) → Given line v name ws → Read line r
+pub record Tell (v : Verb) (ws : List Word) (r : Result Step TextFault) : Type 0 where
+  pub told : (line : List ℕ) (name : Word) → Given line v name ws → Read line r
 
--- the same of words that may be too few or too many, or have no bytes
-abbrev pub TellBehind : Verb → Behind → Result Step TextFault → Type 0
-TellBehind v b r = (line : List ℕ) (name : Word) → Begins line v → HoldsBehind line name b → Read line r
-
--- the columns of the words behind the name, where they are told
-abbrev pub columns_of : Behind → Columns
-columns_of Nothing = record { first = None; second = None; third = None }
-columns_of (One a) = record { first = Some a.column; second = None; third = None }
-columns_of (Two a b) = record { first = Some a.column; second = Some b.column; third = None }
-columns_of (Three a b c) = record { first = Some a.column; second = Some b.column; third = Some c.column }
-columns_of More = record { first = None; second = None; third = None }
+-- the columns of the words behind the name
+abbrev pub columns_of : List Word → Columns
+columns_of ws = let columns = map (λ w. w.column) ws in record { first = slice_get columns 0; second = slice_get columns 1; third = slice_get columns 2 }

@@ -1,26 +1,14 @@
 -- The words of a line, cut at each space, which is byte 32.
-use Rattle.std.specs.Prelude.{◌≡◌, ℕ, ◌+◌, cond, List, [], ◌∷◌, ◌++◌, map, length, ◌==◌, Option, ◌≢◌, slice_get, slice_index, slice_index_or}
-use Rattle.std.specs.List.{AllByRecursion}
-
--- the words, the first of which has this byte in front
-abbrev pub onto : ℕ → List (List ℕ) → List (List ℕ)
-onto c [] = (c ∷ []) ∷ []
-onto c (w ∷ ws) = (c ∷ w) ∷ ws
+use Rattle.std.specs.Prelude.{◌≡◌, ℕ, ◌+◌, List, [], ◌∷◌, map, length, ◌==◌, Option, ◌≢◌, slice_get, slice_index, slice_index_or}
+use Rattle.std.specs.List.{AllByRecursion, slice_split, join_with_byte}
 
 -- the words of a line; where a space stands beside another or at an end, a word is empty
 abbrev pub words : List ℕ → List (List ℕ)
-words [] = [] ∷ []
-words (c ∷ cs) = cond (c == 32) ([] ∷ words cs) (onto c (words cs))
-
--- words with one space between each two
-abbrev pub spaced : List (List ℕ) → List ℕ
-spaced [] = []
-spaced (w ∷ []) = w
-spaced (w ∷ (v ∷ ws)) = w ++ (32 ∷ spaced (v ∷ ws))
+words line = slice_split (λ c. c == 32) line
 
 -- the words of a line are the line cut at each space and nowhere else
 pub record CutAtSpaces (line : List ℕ) : Type 0 where
-  pub whole : spaced (words line) ≡ line
+  pub whole : join_with_byte 32 (words line) ≡ line
   pub spaceless : AllByRecursion (λ w. AllByRecursion (λ c. c ≢ 32) w) (words line)
 
 -- each word with its column, if the first stands at this one: as many columns on as the words before it and the spaces

@@ -2,13 +2,15 @@
 
 ghost use Rattle.std.specs.Prelude.{◌≡◌, [], ◌∷◌, IfOk};
 ghost use Rattle.command.specs.Reading.{Read, step_read, Placed};
-ghost use Rattle.command.specs.Telling.{Named, Tell, TellBehind, columns_of};
+ghost use Rattle.command.specs.Telling.{Named, Tell, columns_of};
 ghost use Rattle.command.specs.Words.{CutAtSpaces};
 
 use crate::fault::TextFault;
-use crate::word::{Behind, Word, Words};
+use crate::form::{read_cents, read_number, read_place};
+use crate::word::{Word, first_words, full};
 use draft::call::Call;
 use lines::line::LONGEST_LINE;
+use ratio::word::read_parts;
 use settling::step::Step;
 
 /// The commands of a session.
@@ -37,122 +39,77 @@ pub struct Command {
     pub columns: Columns,
 }
 
-impl Verb {
+impl TryFrom<&[u8]> for Verb {
+    type Error = TextFault;
+
+    ghost try_from_gives = { λ name r. Named name.now r };
+
     /// The command that the word names.
-    fn named(name: &[u8]) -> Option<Verb>
-        ensures { Named name.now result }
-    {
+    fn try_from(name: &[u8]) -> Result<Verb, TextFault> {
         match name {
-            b"tone" => Some(Verb::Tone),
-            b"try" => Some(Verb::Try),
-            b"strike" => Some(Verb::Strike),
-            b"bound" => Some(Verb::Bound),
-            b"level" => Some(Verb::Level),
-            b"settle" => Some(Verb::Settle),
-            _ => None,
-        }
-    }
-
-    /// The step that the command says with one word behind it.
-    fn with_one(self, word: Word<'_>) -> Result<Step, TextFault>
-        ensures { Tell self (word.entry ∷ []) result }
-    {
-        match self {
-            Verb::Tone => Ok(Step::Enter {
-                call: Call::Tone {
-                    pitch: word.cents()?,
-                },
-            }),
-            Verb::Level => Ok(Step::Enter {
-                call: Call::Level {
-                    bound: word.number()?,
-                },
-            }),
-            Verb::Settle => Ok(Step::Settle {
-                allowance: word.number()?,
-            }),
-            _ => Err(TextFault::WrongWords),
-        }
-    }
-
-    /// The step that the command says with two words behind it.
-    fn with_two(self, first: Word<'_>, second: Word<'_>) -> Result<Step, TextFault>
-        ensures { Tell self (first.entry ∷ (second.entry ∷ [])) result }
-    {
-        match self {
-            Verb::Try => {
-                let tone = first.number()? as usize;
-                let (numerator, denominator) = second.parts()?;
-                Ok(Step::Enter {
-                    call: Call::Try {
-                        tone,
-                        numerator,
-                        denominator,
-                    },
-                })
-            }
-            Verb::Strike => Ok(Step::Enter {
-                call: Call::Strike {
-                    tone: first.number()? as usize,
-                    candidate: second.number()? as usize,
-                },
-            }),
-            _ => Err(TextFault::WrongWords),
-        }
-    }
-
-    /// The step that the command says with three words behind it.
-    fn with_three(
-        self,
-        first: Word<'_>,
-        second: Word<'_>,
-        third: Word<'_>,
-    ) -> Result<Step, TextFault>
-        ensures { Tell self (first.entry ∷ (second.entry ∷ (third.entry ∷ []))) result }
-    {
-        match self {
-            Verb::Bound => Ok(Step::Enter {
-                call: Call::Bound {
-                    tone: first.number()? as usize,
-                    other: second.number()? as usize,
-                    bound: third.number()?,
-                },
-            }),
-            _ => Err(TextFault::WrongWords),
-        }
-    }
-
-    /// The step that the command says with these words behind it.
-    fn step(self, behind: Behind<'_>) -> Result<Step, TextFault>
-        ensures { TellBehind self behind.entry result }
-    {
-        if !behind.full() {
-            return Err(TextFault::WrongWords);
-        }
-        match behind {
-            Behind::One(word) => self.with_one(word),
-            Behind::Two(first, second) => self.with_two(first, second),
-            Behind::Three(first, second, third) => self.with_three(first, second, third),
-            Behind::Nothing | Behind::More => Err(TextFault::WrongWords),
+            b"tone" => Ok(Verb::Tone),
+            b"try" => Ok(Verb::Try),
+            b"strike" => Ok(Verb::Strike),
+            b"bound" => Ok(Verb::Bound),
+            b"level" => Ok(Verb::Level),
+            b"settle" => Ok(Verb::Settle),
+            _ => Err(TextFault::NoCommand),
         }
     }
 }
 
-impl Columns {
-    /// The columns of the words behind a command's name, where they are told.
-    fn of(behind: Behind<'_>) -> Columns
-        ensures { result ≡ columns_of behind.entry }
+impl Verb {
+    /// The step that the command says with these words behind it, each of which has a byte.
+    #[tactic(auto, using(crate::proofs::Telling::wrong_count))]
+    fn step(self, words: &[Word<'_>]) -> Result<Step, TextFault>
+        ensures { Tell self words.now result }
     {
-        let (first, second, third) = match behind {
-            Behind::Nothing | Behind::More => (None, None, None),
-            Behind::One(a) => (Some(a.column), None, None),
-            Behind::Two(a, b) => (Some(a.column), Some(b.column), None),
-            Behind::Three(a, b, c) => (Some(a.column), Some(b.column), Some(c.column)),
+        let call = match (self, words) {
+            (Verb::Tone, [pitch]) => Call::Tone {
+                pitch: pitch.read(read_cents)?,
+            },
+            (Verb::Try, [tone, ratio]) => {
+                let tone = tone.read(read_place)?;
+                let (numerator, denominator) = ratio.read(read_parts)?;
+                Call::Try {
+                    tone,
+                    numerator,
+                    denominator,
+                }
+            }
+            (Verb::Strike, [tone, candidate]) => Call::Strike {
+                tone: tone.read(read_place)?,
+                candidate: candidate.read(read_place)?,
+            },
+            (Verb::Bound, [tone, other, bound]) => Call::Bound {
+                tone: tone.read(read_place)?,
+                other: other.read(read_place)?,
+                bound: bound.read(read_number)?,
+            },
+            (Verb::Level, [bound]) => Call::Level {
+                bound: bound.read(read_number)?,
+            },
+            (Verb::Settle, [allowance]) => {
+                return Ok(Step::Settle {
+                    allowance: allowance.read(read_number)?,
+                });
+            }
+            _ => return Err(TextFault::WrongWords),
         };
+        Ok(Step::Enter { call })
+    }
+}
+
+impl Columns {
+    /// The columns of these words behind a command's name.
+    fn of(words: &[Word<'_>]) -> Columns
+        ensures { result ≡ columns_of words.now }
+    {
+        let column = |place: usize| words.get(place).map(|word| word.column);
         Columns {
-            first,
-            second,
-            third,
+            first: column(0),
+            second: column(1),
+            third: column(2),
         }
     }
 }
@@ -170,13 +127,17 @@ impl Command {
         if line.len() > LONGEST_LINE {
             return Err(TextFault::TooLong);
         }
-        let words = Words::of(line);
-        let Some(verb) = Verb::named(words.name.bytes) else {
+        let words = first_words(line);
+        let [name, behind @ ..] = words.as_slice() else {
             return Err(TextFault::NoCommand);
         };
+        let verb = Verb::try_from(name.bytes)?;
+        if !full(behind) {
+            return Err(TextFault::WrongWords);
+        }
         Ok(Command {
-            step: verb.step(words.behind)?,
-            columns: Columns::of(words.behind),
+            step: verb.step(behind)?,
+            columns: Columns::of(behind),
         })
     }
 }

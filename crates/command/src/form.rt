@@ -5,22 +5,25 @@ ghost use Rattle.command.specs.Forms.{NumberRead, CentsRead};
 ghost use Rattle.command.specs.Unsigned.{UnsignedRead};
 ghost use Rattle.lines.specs.Decimals.{signed_decimals};
 
+/// The most digits that a number may have.
+const MOST_DIGITS: usize = 10;
+
 /// The number that a word of 1 to 10 digits writes; zeros may lead. Refuses every other word.
 pub fn read_number(word: &[u8]) -> Option<u64>
     ensures form { NumberRead word.now result }
     ensures again { (n : ℕ) → n < 10 ^ 10 → word.now ≡ decimal n → result ≡ Some n }
 {
-    if word.len() == 0 || word.len() > 10 {
+    if word.len() > MOST_DIGITS || !word.iter().all(|byte| byte.is_ascii_digit()) {
         return None;
     }
-    let mut number: u64 = 0;
-    for byte in word {
-        if !byte.is_ascii_digit() {
-            return None;
-        }
-        number = number * 10 + u64::from(*byte - b'0');
-    }
-    Some(number)
+    str::from_utf8(word).ok()?.parse().ok()
+}
+
+/// The number that a word writes, as the place of a tone or a candidate.
+pub(crate) fn read_place(word: &[u8]) -> Option<usize>
+    ensures { NumberRead word.now result }
+{
+    usize::try_from(read_number(word)?).ok()
 }
 
 /// The thousandths of a cent that a word of cents writes: a minus or none, 1 to 5 digits, a period, 3 digits; zeros may
@@ -39,14 +42,14 @@ pub fn read_cents(word: &[u8]) -> Option<i32>
 fn read_unsigned(word: &[u8]) -> Option<i32>
     ensures { UnsignedRead word.now result }
 {
-    if word.len() < 5 || word.len() > 9 {
+    let (front, thousandths) = word.split_last_chunk::<3>()?;
+    let [wholes @ .., b'.'] = front else {
+        return None;
+    };
+    if wholes.len() > 5 {
         return None;
     }
-    let period = word.len() - 4;
-    if word[period] != b'.' {
-        return None;
-    }
-    let wholes = read_number(&word[0..period])?;
-    let thousandths = read_number(&word[period + 1..])?;
-    Some((wholes * 1000 + thousandths) as i32)
+    let wholes = read_number(wholes)?;
+    let thousandths = read_number(thousandths)?;
+    i32::try_from(wholes * 1000 + thousandths).ok()
 }

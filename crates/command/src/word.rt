@@ -1,14 +1,15 @@
 //! The words of a line, each with its column.
 
-ghost use Rattle.std.specs.Prelude.{◌+◌, ◌^◌, ◌<◌, length, Decides};
-ghost use Rattle.command.specs.Cutting.{FirstSpace, Cut, Holds, listed, Full};
-ghost use Rattle.command.specs.Forms.{NumberRead, CentsRead};
-ghost use Rattle.command.specs.Telling.{FormRead};
-ghost use Rattle.ratio.specs.Words.{PartsRead};
+ghost use Rattle.std.specs.Prelude.{◌≡◌, take, Decides};
+ghost use Rattle.command.specs.Telling.{FormRead, Full, views};
+ghost use Rattle.command.specs.Words.{words, placed};
+ghost use Rattle.places.specs.Listed.{listed};
 
 use crate::fault::TextFault;
-use crate::form::{read_cents, read_number};
-use ratio::word::read_parts;
+use places::Places;
+
+/// How many words of a line are told apart: one more than the longest command has.
+const MOST_WORDS: usize = 5;
 
 /// A word: its stretch of the line, and the column of its first byte, counted from 1.
 #[derive(Clone, Copy)]
@@ -17,140 +18,39 @@ pub(crate) struct Word<'a> {
     pub(crate) column: usize,
 }
 
-/// The words behind the name of a command; of more than three, that there are more.
-#[derive(Clone, Copy)]
-pub(crate) enum Behind<'a> {
-    Nothing,
-    One(Word<'a>),
-    Two(Word<'a>, Word<'a>),
-    Three(Word<'a>, Word<'a>, Word<'a>),
-    More,
-}
-
-/// The words of a line: its first word, which names a command, and those behind it.
-#[derive(Clone, Copy)]
-pub(crate) struct Words<'a> {
-    pub(crate) name: Word<'a>,
-    pub(crate) behind: Behind<'a>,
-}
-
-/// The place of the first space.
-fn first_space(line: &[u8]) -> Option<usize>
-    ensures { FirstSpace line.now result }
+/// The first words of the line, as many as are told apart.
+pub(crate) fn first_words(line: &[u8]) -> Places<Word<'_>, MOST_WORDS>
+    ensures { views (listed result) ≡ take MOST_WORDS (placed 1 (words line.now)) }
 {
-    for (i, byte) in line.iter().enumerate() {
-        if *byte == b' ' {
-            return Some(i);
+    let mut words = Places::empty(Word {
+        bytes: &[],
+        column: 0,
+    });
+    let mut column = 1;
+    for bytes in line.split(|byte| *byte == b' ') {
+        if words.push(Word { bytes, column }).is_err() {
+            break;
         }
+        column += bytes.len() + 1;
     }
-    None
+    words
 }
 
-impl<'a> Word<'a> {
-    /// The first word of this stretch of a line, and what stands behind the space that ends it.
-    fn cut(self) -> (Word<'a>, Option<Word<'a>>)
-        requires { self.column + length self.bytes.now < 2 ^ 64 }
-        ensures { Cut self.entry result }
-    {
-        let bytes = self.bytes;
-        let column = self.column;
-        let Some(end) = first_space(bytes) else {
-            return (self, None);
-        };
-        let word = Word {
-            bytes: &bytes[0..end],
-            column,
-        };
-        let rest = Word {
-            bytes: &bytes[end + 1..],
-            column: column + end + 1,
-        };
-        (word, Some(rest))
-    }
-
-    /// The number that the word writes in digits.
-    pub(crate) fn number(self) -> Result<u64, TextFault>
-        ensures { FormRead (NumberRead self.entry.bytes.now) self.entry.column result }
-    {
-        read_number(self.bytes).ok_or(TextFault::NoForm {
-            column: self.column,
-        })
-    }
-
-    /// The thousandths of a cent that the word writes.
-    pub(crate) fn cents(self) -> Result<i32, TextFault>
-        ensures { FormRead (CentsRead self.entry.bytes.now) self.entry.column result }
-    {
-        read_cents(self.bytes).ok_or(TextFault::NoForm {
-            column: self.column,
-        })
-    }
-
-    /// The numerator and the denominator of the ratio that the word writes.
-    pub(crate) fn parts(self) -> Result<(u64, u64), TextFault>
-        ensures { FormRead (PartsRead self.entry.bytes.now) self.entry.column result }
-    {
-        read_parts(self.bytes).ok_or(TextFault::NoForm {
-            column: self.column,
-        })
-    }
+/// Whether each of the words has a byte, as it has if no space stands beside another or at the end.
+pub(crate) fn full(words: &[Word<'_>]) -> bool
+    ensures { Decides result (Full words.now) }
+{
+    words.iter().all(|word| !word.bytes.is_empty())
 }
 
-impl<'a> Words<'a> {
-    /// The words of the line.
-    pub(crate) fn of(line: &'a [u8]) -> Words<'a>
-        ensures { Holds line.now result }
+impl Word<'_> {
+    /// What a reader of its form reads the word as.
+    pub(crate) fn read<T, F: FnOnce(&[u8]) -> Option<T>>(self, reader: F) -> Result<T, TextFault>
+        requires { F.IsAlwaysCallable reader }
+        ensures { FormRead (F.post reader self.entry.bytes) self.entry.column result }
     {
-        let whole = Word {
-            bytes: line,
-            column: 1,
-        };
-        let (name, rest) = whole.cut();
-        let Some(rest) = rest else {
-            return Words {
-                name,
-                behind: Behind::Nothing,
-            };
-        };
-        let (first, rest) = rest.cut();
-        let Some(rest) = rest else {
-            return Words {
-                name,
-                behind: Behind::One(first),
-            };
-        };
-        let (second, rest) = rest.cut();
-        let Some(rest) = rest else {
-            return Words {
-                name,
-                behind: Behind::Two(first, second),
-            };
-        };
-        match rest.cut() {
-            (third, None) => Words {
-                name,
-                behind: Behind::Three(first, second, third),
-            },
-            (_, Some(_)) => Words {
-                name,
-                behind: Behind::More,
-            },
-        }
-    }
-}
-
-impl Behind<'_> {
-    /// Whether each of the words has a byte, as it has if no space stands beside another or at the end.
-    pub(crate) fn full(self) -> bool
-        ensures { Decides result (Full (listed self.entry)) }
-    {
-        match self {
-            Behind::Nothing | Behind::More => true,
-            Behind::One(a) => !a.bytes.is_empty(),
-            Behind::Two(a, b) => !a.bytes.is_empty() && !b.bytes.is_empty(),
-            Behind::Three(a, b, c) => !a.bytes.is_empty()
-                && !b.bytes.is_empty()
-                && !c.bytes.is_empty(),
-        }
+        reader(self.bytes).ok_or(TextFault::NoForm {
+            column: self.column,
+        })
     }
 }

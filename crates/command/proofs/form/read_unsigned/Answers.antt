@@ -1,56 +1,51 @@
-use Rattle.std.proofs.Common.{◌≡◌, ℕ, ◌+◌, ◌-◌, ◌^◌, ◌<◌, length, take, drop, Some, sym, refl, ◌∙◌, arith, length-drop, length-take, rules}
-use Rattle.std.proofs.lemmas.List.{take_rest}
-use Rattle.std.proofs.lemmas.Int.{ints}
-use Rattle.command.specs.Forms.{NumberRead}
-use Rattle.command.proofs.Cents.{parts, Parts, wholes_numeral, thousandths_numeral, from_parts, number_below}
+use Rattle.std.proofs.Common.{◌≡◌, ℕ, ◌+◌, ◌-◌, ◌*◌, ◌^◌, ◌<◌, ◌≤◌, length, take, ℤ, pos, Some, Ok, Err, Result, ap, arith, w32, SFits, rules}
+use Rattle.std.specs.Result.{result_ok, OkIff}
+use Rattle.command.proofs.Cents.{parted, numerals, from_numerals, number_below}
 use Rattle.command.proofs.form.read_unsigned.Goals as goal
-
-pub returns-then-word-lt5 : goal.returns-then-word-lt5
-returns-then-word-lt5 c a b h = let p = parts c.args.word.now a b h in grind (arith, p.long.0, p.long.1)
-
-pub returns-then-word-period-ne46 : goal.returns-then-word-period-ne46
-returns-then-word-period-ne46 c a b h = c.if-word-period-ne46.true (parts c.args.word.now a b h).period
 
 pub returns-in_err-wholes : goal.returns-in_err-wholes
 returns-in_err-wholes c =
     let w = c.args.word.now in
-    rw c.from_residual.ensures (λ a b h.
-    let is : take (length w - 4 - 0) w ≡ a = search (rules, (parts w a b h).wholes) in
-    c.in_err-wholes.ensures.form (rw is (wholes_numeral w a b h)))
+    let front = c.in_ok-front.front.now in
+    let p = parted w front c.in_ok-front.thousandths.now (search rules) (search rules) (search rules) (search rules) in
+    rw c.from_residual-in_err-wholes.ensures (λ a b h. c.in_err-wholes.ensures.form (numerals w (take (length front - 1) front) c.in_ok-front.thousandths.now a b p h).0)
 
 pub returns-in_err-thousandths : goal.returns-in_err-thousandths
 returns-in_err-thousandths c =
     let w = c.args.word.now in
-    rw c.from_residual-in_err-thousandths.ensures (λ a b h.
-    let is : take (length w - (length w - 4 + 1)) (drop (length w - 4 + 1) w) ≡ b = take_rest w (length w - 4 + 1) ∙ sym (parts w a b h).thousandths in
-    c.in_err-thousandths.ensures.form (rw is (thousandths_numeral w a b h)))
+    let front = c.in_ok-front.front.now in
+    let p = parted w front c.in_ok-front.thousandths.now (search rules) (search rules) (search rules) (search rules) in
+    rw c.from_residual-in_err-thousandths.ensures (λ a b h. c.in_err-thousandths.ensures.form (numerals w (take (length front - 1) front) c.in_ok-front.thousandths.now a b p h).1)
 
--- the wholes are below 10 ^ 5, and the thousandths below 10 ^ 3
-below : (c : goal.In_ok-thousandths) → (c.in_ok-wholes.wholes < 10 ^ 5) × (c.in_ok-thousandths.thousandths < 10 ^ 3)
-below c =
-    let w = c.args.word.now in
-    let k : ℕ = length w - 4 + 1 in (
-      number_below (take (length w - 4 - 0) w) c.in_ok-wholes.wholes 5 c.in_ok-wholes.ensures.form (omega (arith, length-take (length w - 4 - 0) w, c.if-word-gt9.false)),
-      number_below (take (length w - k) (drop k w)) c.in_ok-thousandths.thousandths 3 c.in_ok-thousandths.ensures.form (omega (arith, length-take (length w - k) (drop k w), length-drop k w)),
-    )
+pub overflow_mul-wholes : goal.overflow_mul-wholes
+overflow_mul-wholes c =
+    let below = number_below (take (length c.in_ok-front.front.now - 1) c.in_ok-front.front.now) c.in_ok-wholes.wholes 10 c.in_ok-wholes.ensures.form c.in_ok-wholes.ensures.form.0.few in
+    omega arith
 
-pub overflow_mul-result : goal.overflow_mul-result
-overflow_mul-result c = omega (arith, (below c).0)
+pub overflow_add-wholes : goal.overflow_add-wholes
+overflow_add-wholes c =
+    let wholes = number_below (take (length c.in_ok-front.front.now - 1) c.in_ok-front.front.now) c.in_ok-wholes.wholes 10 c.in_ok-wholes.ensures.form c.in_ok-wholes.ensures.form.0.few in
+    let thousandths = number_below c.in_ok-front.thousandths.now c.in_ok-thousandths.thousandths 10 c.in_ok-thousandths.ensures.form c.in_ok-thousandths.ensures.form.0.few in
+    omega arith
 
-pub overflow_add-result : goal.overflow_add-result
-overflow_add-result c = omega (arith, (below c).0, (below c).1)
-
-pub overflow_cast-result : goal.overflow_cast-result
-overflow_cast-result c = search (rules, (below c).0, (below c).1)
+-- a number that is small enough is converted
+converted : {E : Type 0} (n : ℕ) → n < 2 ^ 31 → (r : Result ℤ E) → OkIff r (SFits w32 (pos n)) (pos n) → result_ok r ≡ Some (pos n)
+converted n small (Ok x) h = ap Some h.1
+converted n small (Err e) h = absurd (h (search rules))
 
 pub returns : goal.returns
 returns c =
     let w = c.args.word.now in
-    let k : ℕ = length w - 4 + 1 in
-    let a = take (length w - 4) w in
-    let b = drop k w in
-    let wholes : NumberRead a (Some c.in_ok-wholes.wholes) = search (rules, c.in_ok-wholes.ensures.form) in
-    let thousandths : NumberRead b (Some c.in_ok-thousandths.thousandths) = rw (take_rest w k) at c.in_ok-thousandths.ensures.form in
-    let stand : Parts w a b = record { long = (c.if-word-lt5.false, c.if-word-gt9.false); wholes = refl; period = c.if-word-period-ne46.false; thousandths = refl } in
-    let fits = below c in
-    (a, (b, (from_parts w a b stand wholes.0 thousandths.0, omega (arith, ints, fits.0, fits.1, wholes.1, thousandths.1))))
+    let front = c.in_ok-front.front.now in
+    let a = take (length front - 1) front in
+    let b = c.in_ok-front.thousandths.now in
+    let p = parted w front b (search rules) (search rules) (search rules) (search rules) in
+    let few : length a ≤ 5 = search rules in
+    let wholes = c.in_ok-wholes.ensures.form in
+    let thousandths = c.in_ok-thousandths.ensures.form in
+    let word = from_numerals w a b p few wholes.0 thousandths.0 in
+    let few_wholes = number_below a c.in_ok-wholes.wholes 5 wholes few in
+    let few_thousandths = number_below b c.in_ok-thousandths.thousandths 3 thousandths (omega (arith, p.three)) in
+    let n : ℕ = c.in_ok-wholes.wholes * 1000 + c.in_ok-thousandths.thousandths in
+    let is = converted n (omega arith) c.try_from.result c.try_from.ensures in
+    rw (c.ok.ensures.value, is) (a, (b, (word, ap pos (cc (wholes.1, thousandths.1)))))
