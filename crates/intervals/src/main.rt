@@ -3,13 +3,23 @@
 
 use interval::table::Table;
 use std::io;
-use std::io::{BufReader, Read};
+use std::io::Read;
 
 fn main(rt: HostRuntime) -> io::Result<()> {
+    let mut input = rt.stdin();
     let mut table = Table::new();
-    for byte in BufReader::new(rt.alloc(), rt.stdin())?.bytes() {
-        if let Some(answer) = table.hear(byte?) {
-            println!(rt; "{answer}")?;
+    let mut chunk = [0; 4096];
+    // nothing says that an input ends, so the turns are counted
+    // stays (rule): `bytes()` of a BufReader would need the heap, and this program runs in fixed memory
+    for _ in 0..u64::MAX {
+        let count = input.read(&mut chunk)?;
+        if count == 0 {
+            break;
+        }
+        for byte in &chunk[0..count] {
+            if let Some(answer) = table.hear(*byte) {
+                println!(rt; "{answer}")?;
+            }
         }
     }
     if let Some(answer) = table.finish() {
