@@ -1,7 +1,7 @@
 -- The places of the bounds: one for each pair, whichever way round. Assumes nothing.
-use Rattle.std.proofs.Common.{◌≡◌, ℕ, zero, suc, ◌+◌, ◌-◌, ◌*◌, ◌/◌, ◌<◌, ◌≤◌, min, max, true, false, cond, ◌&&◌, eqb, ◌≢◌, ◌⊎◌, List, length, get_or, set, sym, refl, ap, ◌∙◌, subst, inl, inr, ⊎_elim, arith}
+use Rattle.std.proofs.Common.{◌≡◌, ℕ, zero, suc, ◌+◌, ◌-◌, ◌*◌, ◌/◌, ◌<◌, ◌≤◌, min, max, true, false, cond, eqb, ◌≢◌, ◌⊎◌, List, length, get_or, set, sym, refl, ap, ◌∙◌, subst, inl, inr, ⊎_elim, arith}
 use Rattle.std.proofs.lemmas.List.{get_or-set_same, get_or-set_other}
-use Rattle.std.proofs.lemmas.Bool.{and_parts, or_cases, eqb-true, cases_eq, cases_order, cases_Bool, cond-true, cond-false}
+use Rattle.std.proofs.lemmas.Bool.{eqb-true, cases_eq, cases_order, cases_Bool, cond-true, cond-false}
 use Rattle.std.proofs.lemmas.Bool.Decides.{nat_tests}
 use Rattle.ratio.proofs.Divides.{below_at}
 use Rattle.draft.specs.Book.{same_pair}
@@ -59,11 +59,7 @@ place_either i j =
     omega (arith, place i j, place j i)
 
 same_place : (t u i j : ℕ) → same_pair t u i j ≡ true → pair_place i j ≡ pair_place t u
-same_place t u i j h =
-    ⊎_elim
-    (λ e. let b = and_parts (eqb i t) (eqb j u) e in let p = eqb-true i t b.0 in let q = eqb-true j u b.1 in ap (λ k. pair_place k j) p ∙ ap (pair_place t) q)
-    (λ e. let b = and_parts (eqb i u) (eqb j t) e in let p = eqb-true i u b.0 in let q = eqb-true j t b.1 in ap (λ k. pair_place k j) p ∙ (ap (pair_place u) q ∙ place_either u t))
-    (or_cases (eqb i t && eqb j u) (eqb i u && eqb j t) h)
+same_place t u i j h = grind (arith, nat_tests, place_either i j)
 
 -- the bound of one pair is written, and of no other
 pub bound_written : (bounds : List ℕ) (t u x i j : ℕ) → length bounds ≡ 496 → t < 32 → u < 32 → t ≢ u → i < 32 → j < 32 → i ≢ j
@@ -71,7 +67,7 @@ pub bound_written : (bounds : List ℕ) (t u x i j : ℕ) → length bounds ≡ 
 bound_written bounds t u x i j long ht hu tu hi hj ij =
     ⊎_elim
     (λ (same : pair_place i j ≡ pair_place t u).
-    let one : same_pair t u i j ≡ true = ⊎_elim (λ b. let p = b.0 in let q = b.1 in grind (arith, nat_tests)) (λ b. let p = b.0 in let q = b.1 in grind (arith, nat_tests)) (place_once i j t u hi hj ht hu ij tu same) in
+    let one : same_pair t u i j ≡ true = let once = place_once i j t u hi hj ht hu ij tu same in grind (arith, nat_tests) in
     let within = place_within t u ht hu tu in
     ap (λ k. get_or (set bounds (pair_place t u) x) k 0) same ∙ (get_or-set_same bounds (pair_place t u) x 0 (omega arith) ∙ sym (cond-true (same_pair t u i j) x (get_or bounds (pair_place i j) 0) one)))
     (λ (other : pair_place i j ≢ pair_place t u).

@@ -1,5 +1,5 @@
 -- What every book keeps. Assumes nothing.
-use Rattle.std.proofs.Common.{◌≡◌, ℕ, zero, suc, ◌<◌, ◌≤◌, Bool, true, false, cond, ◌&&◌, ◌||◌, eqb, leb, List, [], ◌∷◌, ◌++◌, map, length, get_or, ℤ, nat_abs, Some, None, Ok, Err, Option, Result, sym, refl, ap, ◌∙◌, subst, arith, length-append, length-drop, length-take}
+use Rattle.std.proofs.Common.{◌≡◌, ℕ, zero, suc, ◌<◌, ◌≤◌, cond, leb, List, [], ◌∷◌, ◌++◌, map, length, get_or, ℤ, nat_abs, Some, None, Ok, Err, Option, Result, sym, refl, ap, ◌∙◌, subst, arith, length-append, length-drop, length-take}
 use Rattle.std.specs.List.{remove, AllByRecursion}
 use Rattle.std.proofs.ByRecursion.{All-push}
 use Rattle.std.proofs.lemmas.Bool.{cond_both}
@@ -33,24 +33,6 @@ few_changed (suc t) f (n ∷ ns) a g = (a.0, few_changed t f ns a.1 g)
 pub sound_new : Sound new_book
 sound_new = record { few_tones = omega arith; pitches = tt; few_candidates = tt; bounds = λ i j. omega arith; both_ways = λ i j. refl }
 
-crossed : (a b c d : Bool) → ((a && b) || (c && d)) ≡ ((d && c) || (b && a))
-crossed true true true true = refl
-crossed true true true false = refl
-crossed true true false true = refl
-crossed true true false false = refl
-crossed true false true true = refl
-crossed true false true false = refl
-crossed true false false true = refl
-crossed true false false false = refl
-crossed false true true true = refl
-crossed false true true false = refl
-crossed false true false true = refl
-crossed false true false false = refl
-crossed false false true true = refl
-crossed false false true false = refl
-crossed false false false true = refl
-crossed false false false false = refl
-
 -- what holds where nothing is refused
 tone_allowed : (b : Book) (pitch : ℤ) → refusal b (Tone pitch) ≡ None → (nat_abs pitch ≤ 12000000) × (length b.tones < 32)
 tone_allowed b pitch e = (grind (arith, nat_tests), grind (arith, nat_tests))
@@ -73,7 +55,7 @@ one_fewer : (cs : List Ratio) (k : ℕ) → length cs ≤ 8 → length (remove c
 one_fewer cs k h = simp (length-append, length-take, length-drop) (omega arith)
 
 pair_either : (t u i j : ℕ) → same_pair t u i j ≡ same_pair t u j i
-pair_either t u i j = crossed (eqb i t) (eqb j u) (eqb i u) (eqb j t)
+pair_either t u i j = grind (arith, nat_tests)
 
 entered_sound : (b : Book) (c : Call) → refusal b c ≡ None → Sound b → Sound (entered b c)
 entered_sound b (Tone pitch) e s = record {

@@ -59,6 +59,7 @@ impl<T: Copy, const N: usize> Places<T, N> {
     }
 
     /// Puts an item in the place of another, which is returned, or `None` if the place is not taken.
+    // stays (proof): a place lent as `&mut` gets no proof, as it lies in an array of a type parameter; so items are read, changed and put back.
     pub fn replace(&mut self, place: usize, item: T) -> Option<T>
         ensures replaced { result ≡ slice_get (listed self.old) place }
         ensures listed { listed self.new ≡ slice_set (listed self.old) place item }

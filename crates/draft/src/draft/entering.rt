@@ -61,6 +61,7 @@ impl Draft {
     pub fn strike(&mut self, tone: usize, candidate: usize) -> Result<(), DraftFault>
         ensures by_book { ByBook self.old self.new (Strike tone candidate) result }
     {
+        // stays (no plainer): as one with `try_ratio`, over a closure, each closure would repeat the clauses of `add` or `strike`.
         let mut changed = self.tones.get(tone).ok_or(DraftFault::NoTone)?;
         changed.strike(candidate)?;
         self.tones.replace(tone, changed);

@@ -35,6 +35,7 @@ impl Draft {
     }
 
     /// The bound of a pair of tones, whichever way round, or `None` if they are one tone or one of them is not there.
+    #[tactic(auto, using(crate::proofs::Reading::bound_at_pair))]
     pub fn bound_of(&self, tone: usize, other: usize) -> Option<u32>
         ensures by_book { (b : Book) → Holds self.now b → result ≡ bound_in b tone other }
     {

@@ -1,10 +1,8 @@
-use Rattle.std.proofs.Common.{length, Err, sym, refl, ap, ◌∙◌, subst, arith}
-use Rattle.std.proofs.lemmas.Result.{err_from_is_err_and}
+use Rattle.std.proofs.Common.{length, sym, refl, ap, ◌∙◌, arith}
 use Rattle.std.specs.List.{remove}
 use Rattle.draft.specs.declared.call.Call.TheVariants.{Strike}
 use Rattle.draft.specs.declared.fault.DraftFault.TheVariants.{NoCandidate}
-use Rattle.draft.specs.Held.{ByBook}
-use Rattle.draft.proofs.Going.{refused_by, taken_by}
+use Rattle.draft.proofs.Going.{taken_by, told_by}
 use Rattle.draft.proofs.Holding.{held_candidates, held_within, tone_replaced}
 use Rattle.draft.proofs.Refusals.{strike_none, strike_taken}
 use Rattle.draft.proofs.draft.Draft.strike.Goals as goal
@@ -16,11 +14,10 @@ returns-in_err-strike c =
     let k = c.args.candidate in
     let x = c.in_ok-changed.changed in
     let read = sym c.get.ensures ∙ c.in_ok-changed.ensures.ok_part in
-    let p = err_from_is_err_and c.from_residual-in_err-strike.result c.from_residual-in_err-strike.ensures.1 in
     let why = c.in_err-strike.ensures.cases in
     record {
-      by_book = subst (ByBook d d (Strike t k)) (sym (p.1 ∙ ap Err (p.2 ∙ why.0))) (refused_by d (Strike t k) NoCandidate (λ b h.
-          strike_none b t k (held_within d b h t x read) (omega (arith, why.1, ap length (held_candidates d b h t x read)))));
+      by_book = told_by d (Strike t k) _ _ NoCandidate c.from_residual-in_err-strike.ensures.1 why.0 (λ b h.
+          strike_none b t k (held_within d b h t x read) (omega (arith, why.1, ap length (held_candidates d b h t x read))));
     }
 
 pub returns : goal.returns

@@ -1,11 +1,10 @@
-use Rattle.std.proofs.Common.{◌≡◌, ◌++◌, length, Ok, Err, sym, refl, ap, ◌∙◌, subst, arith, rules}
-use Rattle.std.proofs.lemmas.Result.{err_from_is_err_and}
+use Rattle.std.proofs.Common.{◌≡◌, ◌++◌, length, Ok, sym, refl, ap, ◌∙◌, arith, rules}
 use Rattle.ratio.specs.Computed.{entry}
 use Rattle.draft.specs.Book.{entered_ratio}
-use Rattle.draft.specs.Held.{ByBook, listed}
+use Rattle.draft.specs.Held.{listed}
 use Rattle.draft.specs.declared.call.Call.TheVariants.{Try}
 use Rattle.draft.specs.declared.fault.DraftFault.TheVariants.{NoTone, CandidatesFull}
-use Rattle.draft.proofs.Going.{refused_by, taken_by}
+use Rattle.draft.proofs.Going.{taken_by, told_by}
 use Rattle.draft.proofs.Holding.{held_candidates, held_within, held_absent, tone_replaced}
 use Rattle.draft.proofs.Refusals.{try_absent, try_full, try_taken}
 use Rattle.draft.proofs.draft.Draft.try_ratio.Goals as goal
@@ -35,11 +34,9 @@ returns-in_err-changed c =
     let n = c.args.numerator in
     let m = c.args.denominator in
     let read = sym c.get.ensures ∙ c.in_err-changed.ensures.ok_part in
-    let p = err_from_is_err_and c.from_residual-in_err-changed.result c.from_residual-in_err-changed.ensures.1 in
-    let fault : c.in_err-changed.field-0.0 ≡ NoTone = search rules in
     record {
-      by_book = subst (ByBook d d (Try t n m)) (sym (p.1 ∙ ap Err (p.2 ∙ fault))) (refused_by d (Try t n m) NoTone (λ b h.
-          try_absent b t n m c.in_ok-ratio.ratio (sym c.in_ok-ratio.ensures.value) (held_absent d b h t read)));
+      by_book = told_by d (Try t n m) _ _ NoTone c.from_residual-in_err-changed.ensures.1 (search rules) (λ b h.
+          try_absent b t n m c.in_ok-ratio.ratio (sym c.in_ok-ratio.ensures.value) (held_absent d b h t read));
     }
 
 pub returns-in_err-add : goal.returns-in_err-add
@@ -50,9 +47,8 @@ returns-in_err-add c =
     let m = c.args.denominator in
     let x = c.in_ok-changed.changed in
     let read = sym c.get.ensures ∙ c.in_ok-changed.ensures.ok_part in
-    let p = err_from_is_err_and c.from_residual-in_err-add.result c.from_residual-in_err-add.ensures.1 in
     let why = c.in_err-add.ensures.cases in
     record {
-      by_book = subst (ByBook d d (Try t n m)) (sym (p.1 ∙ ap Err (p.2 ∙ why.0))) (refused_by d (Try t n m) CandidatesFull (λ b h.
-          try_full b t n m c.in_ok-ratio.ratio (sym c.in_ok-ratio.ensures.value) (held_within d b h t x read) (omega (arith, why.1, ap length (held_candidates d b h t x read)))));
+      by_book = told_by d (Try t n m) _ _ CandidatesFull c.from_residual-in_err-add.ensures.1 why.0 (λ b h.
+          try_full b t n m c.in_ok-ratio.ratio (sym c.in_ok-ratio.ensures.value) (held_within d b h t x read) (omega (arith, why.1, ap length (held_candidates d b h t x read))));
     }
