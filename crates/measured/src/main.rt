@@ -67,6 +67,7 @@ struct Desk {
 
 impl Desk {
     /// Takes up one of the two commands of this program, if the line is one.
+    // stays (no plainer): one arm for each line that sets something; a TryFrom for each name would split the line first
     fn chooses(&mut self, line: &[u8]) -> bool {
         match line {
             b"measure barlow" => self.measure = MeasureName::Barlow,

@@ -7,7 +7,8 @@ use Rattle.std.proofs.lemmas.List.Sums.{sum_by-cons, sum_by_push}
 use Rattle.std.proofs.lemmas.Bool.{cases_Bool, cases_eq, both_ways, cond-true, cond-false}
 use Rattle.settling.specs.Settling.{Costing, Lawful, Problem, Choice, choices, below, laid, apart, keeps, cost, live, trials_at, trials, Best}
 use Rattle.settling.proofs.Listed.{all_below, below_more, choice_push, sum_by_both, sum_choices_push}
-use Rattle.settling.proofs.Kept.{folded_map, folded_same, laid_front, keeps_front, keeps_push, keeps_last, cost_push}
+use Rattle.std.proofs.lemmas.List.Folds.{fold-map}
+use Rattle.settling.proofs.Kept.{folded_same, laid_front, keeps_front, keeps_push, keeps_last, cost_push}
 use Rattle.settling.proofs.Live.{live_keeps, dead_under}
 use Rattle.settling.specs.Explore.{Found, counted, next, beaten, numbered, row, explore, step}
 use Rattle.settling.proofs.Explore.{explore_beaten, explore_end, explore_tone}
@@ -108,7 +109,7 @@ module _ {R : Type 0} (p : Problem R) (none : R) {V : Type 0} (c : Costing V) wh
               sum =
                   rowed.sum
                   ∙ ap (fold (λ v y. c.join v (c.worth (p.distance y x))) v) node.ratios
-                  ∙ folded_map (λ v y. c.join v (c.worth (p.distance y x))) (laid p none s) v (below (length s))
+                  ∙ fold-map (λ v y. c.join v (c.worth (p.distance y x))) (laid p none s) v (below (length s))
                   ∙ sym (folded_same (λ v i. c.join v (c.worth (apart p none t i (length s)))) (λ v i. c.join v (c.worth (p.distance (laid p none s i) x))) v (below (length s))
                   (all_below (λ i. (v : V) → c.join v (c.worth (apart p none t i (length s))) ≡ c.join v (c.worth (p.distance (laid p none s i) x))) (length s) (λ i h v. ap (λ d. c.join v (c.worth d)) (apart_last i h))))
                   ∙ ap (λ u. fold (λ v i. c.join v (c.worth (apart p none t i (length s)))) u (below (length s))) node.sum

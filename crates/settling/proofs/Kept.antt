@@ -2,19 +2,13 @@
 use Rattle.std.proofs.Common.{◌≡◌, ℕ, ◌<◌, ◌≤◌, true, leb, List, [], ◌∷◌, ◌++◌, map, length, get_or, fold, sym, refl, ap, ◌∙◌, subst, ⊎_elim, arith}
 use Rattle.std.specs.List.{AllByRecursion}
 use Rattle.std.proofs.lemmas.List.{append_assoc, append-nil, length_push, length-append, get_or_append_left}
+use Rattle.std.proofs.lemmas.List.Folds.{fold-map}
+use Rattle.std.proofs.lemmas.List.Sums.{fold-append}
 use Rattle.std.proofs.lemmas.Bool.{leb-true, le-leb, cases_lt}
 use Rattle.settling.specs.Settling.{Costing, Lawful, Problem, below, pairs, laid, apart, keeps, cost}
 use Rattle.settling.proofs.Listed.{all_true, true_all, all_pairs, pairs_all, pairs_more}
 
 -- ---- folds
-
-pub folded_append : {A B : Type 0} (f : B → A → B) (b : B) (xs ys : List A) → fold f b (xs ++ ys) ≡ fold f (fold f b xs) ys
-folded_append f b [] ys = refl
-folded_append f b (x ∷ xs) ys = folded_append f (f b x) xs ys
-
-pub folded_map : {A B C : Type 0} (f : B → A → B) (g : C → A) (b : B) (zs : List C) → fold f b (map g zs) ≡ fold (λ b z. f b (g z)) b zs
-folded_map f g b [] = refl
-folded_map f g b (z ∷ zs) = folded_map f g (f b (g z)) zs
 
 pub folded_same : {A B : Type 0} (f g : B → A → B) (b : B) (xs : List A) → AllByRecursion (λ x. (b : B) → f b x ≡ g b x) xs → fold f b xs ≡ fold g b xs
 folded_same f g b [] h = refl
@@ -74,11 +68,11 @@ module _ {R : Type 0} (p : Problem R) (none : R) where
         let G : V → ℕ × ℕ → V = λ v (i, j). c.join v (c.worth (apart p none s i j)) in
         ap (λ n. fold F c.nil (pairs n)) (length_push s q)
         ∙ ap (fold F c.nil) (pairs_more (length s))
-        ∙ folded_append F c.nil (pairs (length s)) (map (λ i. (i, length s)) (below (length s)))
+        ∙ fold-append F c.nil (pairs (length s)) (map (λ i. (i, length s)) (below (length s)))
         ∙ ap (λ v. fold F v (map (λ i. (i, length s)) (below (length s))))
         (folded_same F G c.nil (pairs (length s))
         (all_pairs (λ x. (v : V) → F v x ≡ G v x) (length s) (λ i j h k v. ap (λ d. c.join v (c.worth d)) (apart_front s (q ∷ []) i j h k))))
-        ∙ folded_map F (λ i. (i, length s)) (cost p none c s) (below (length s))
+        ∙ fold-map F (λ i. (i, length s)) (cost p none c s) (below (length s))
 
     module _ (law : Lawful c) where
       pub folded_grows : {A : Type 0} (worth : A → V) (v : V) (xs : List A) → c.no_more v (fold (λ v x. c.join v (worth x)) v xs) ≡ true

@@ -1,8 +1,9 @@
 -- What holds of each of a list, of each number below another, of each pair of tones, and of each choice.
 use Rattle.std.proofs.Common.{◌≡◌, ℕ, zero, suc, ◌+◌, ◌<◌, Bool, true, false, List, [], ◌∷◌, ◌++◌, map, length, get_or, sum_by, sym, refl, ap, ◌∙◌, subst, ⊎_elim, arith}
 use Rattle.std.specs.List.{ContainsAt, flat_map, AllByRecursion}
-use Rattle.std.proofs.lemmas.List.{append-nil, append_assoc, map-id}
+use Rattle.std.proofs.lemmas.List.{append-nil, map-id}
 use Rattle.std.proofs.ByRecursion.{All-get_or, All-from_get_or, All-append, All-map, all-has, all_has_itself, All-weaker}
+use Rattle.std.proofs.lemmas.Grind.{flat_map-append}
 use Rattle.std.proofs.lemmas.List.FromFn.{length-range_with_len, get_or-range_with_len, map-range_with_len_more}
 use Rattle.std.proofs.lemmas.List.Sums.{sum_by-cons, sum_by-append}
 use Rattle.std.proofs.lemmas.Bool.{and_parts, and_from, and_cases, both_ways}
@@ -73,8 +74,7 @@ module _ (P : ℕ × ℕ → Type 0) (n : ℕ) where
       i k
 
 pub gathered_push : {A B : Type 0} (f : B → List A) (ys : List B) (y : B) → flat_map f (ys ++ (y ∷ [])) ≡ flat_map f ys ++ f y
-gathered_push f [] y = append-nil (f y)
-gathered_push f (z ∷ ys) y = ap (λ l. f z ++ l) (gathered_push f ys y) ∙ sym (append_assoc (f z) (flat_map f ys) (f y))
+gathered_push f ys y = flat_map-append f ys (y ∷ []) ∙ ap (λ l. flat_map f ys ++ l) (append-nil (f y))
 
 pub pairs_more : (n : ℕ) → pairs (n + 1) ≡ pairs n ++ map (λ i. (i, n)) (below n)
 pairs_more n =

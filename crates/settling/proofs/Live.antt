@@ -1,17 +1,13 @@
 -- Live starts.
-use Rattle.std.proofs.Common.{◌≡◌, ℕ, ◌+◌, ◌≤◌, true, false, not, ◌&&◌, List, ◌++◌, length, take, drop, sym, ap, ◌∙◌, subst, ⊎_elim, arith}
-use Rattle.std.proofs.lemmas.List.{length-append, take-append-drop, take-take, drop-take}
+use Rattle.std.proofs.Common.{◌≡◌, ℕ, true, false, not, ◌&&◌, List, ◌++◌, length, take, drop, sym, ap, ◌∙◌, subst, ⊎_elim}
+use Rattle.std.proofs.lemmas.List.{length-append}
+use Rattle.std.proofs.Math.Seq.{take-add}
 use Rattle.std.proofs.ByRecursion.{All-weaker}
 use Rattle.std.proofs.lemmas.Bool.{and_parts, and_from, and_cases, cases_Bool, both_ways, not-true, not-false, not_from_false}
 use Rattle.settling.specs.Settling.{Costing, Lawful, Problem, Choice, choices, before, all, keeps, cost, bars, live}
 use Rattle.settling.proofs.Listed.{all_true, true_all, one_fails, all_choice, every_choice}
 use Rattle.settling.proofs.Order.{before_append}
 use Rattle.settling.proofs.Kept.{keeps_front, cost_grows}
-
-pub take_parts : {A : Type 0} (n m : ℕ) (xs : List A) → take (n + m) xs ≡ take n xs ++ take m (drop n xs)
-take_parts n m xs =
-    let h : n ≤ n + m = omega arith in
-    sym (take-append-drop n (take (n + m) xs)) ∙ ap (λ l. l ++ drop n (take (n + m) xs)) (take-take n (n + m) xs h) ∙ ap (λ l. take n xs ++ l) (drop-take n m xs)
 
 module _ {R : Type 0} (p : Problem R) (none : R) {V : Type 0} (c : Costing V) where
   -- A choice that comes before the start s, keeps the bounds and costs no more.
@@ -66,7 +62,7 @@ module _ {R : Type 0} (p : Problem R) (none : R) {V : Type 0} (c : Costing V) wh
     barred_under s t b = record {
       bar = b.bar;
       choice = b.choice;
-      earlier = subst (λ l. before l (s ++ t) ≡ true) (sym (ap (λ n. take n b.bar) (length-append s t) ∙ take_parts (length s) (length t) b.bar)) (before_append (take (length s) b.bar) s (take (length t) (drop (length s) b.bar)) t b.earlier);
+      earlier = subst (λ l. before l (s ++ t) ≡ true) (sym (ap (λ n. take n b.bar) (length-append s t) ∙ take-add (length s) (length t) b.bar)) (before_append (take (length s) b.bar) s (take (length t) (drop (length s) b.bar)) t b.earlier);
       kept = b.kept;
       cheap = law.transitive (cost p none c b.bar) (cost p none c s) (cost p none c (s ++ t)) b.cheap (cost_grows p none c law s t);
     }

@@ -4,7 +4,7 @@ use Rattle.std.proofs.lemmas.List.{take-append-drop, take_all}
 use Rattle.std.proofs.lemmas.List.Sums.{fold_more}
 use Rattle.std.proofs.lemmas.Bool.{cases_Bool}
 use Rattle.settling.specs.Settling.{Costing, Problem}
-use Rattle.settling.proofs.Kept.{folded_append}
+use Rattle.std.proofs.lemmas.List.Sums.{fold-append}
 use Rattle.settling.specs.Explore.{Found, counted, next, beaten, numbered, row, explore, step}
 use Rattle.settling.proofs.Explore.{explore_beaten, explore_end, explore_tone}
 
@@ -90,7 +90,7 @@ module _ {R V : Type 0} (p : Problem R) (c : Costing V) where
     front_trials f n xs =
         let S = step p c rest laid s v in
         subst (λ l. (fold S f (take n xs)).trials ≤ (fold S f l).trials) (take-append-drop n xs)
-        (subst (λ g. (fold S f (take n xs)).trials ≤ g.trials) (sym (folded_append S f (take n xs) (drop n xs))) (folded_trials (fold S f (take n xs)) (drop n xs)))
+        (subst (λ g. (fold S f (take n xs)).trials ≤ g.trials) (sym (fold-append S f (take n xs) (drop n xs))) (folded_trials (fold S f (take n xs)) (drop n xs)))
 
     -- where the first n candidates have spent the allowance and one is left, the whole search spends more
     pub spent_here : (f g : Found V) (cs : List R) (n a : ℕ) (x : R) → n < length cs → x ≡ get_or cs n x → g ≡ fold (step p c rest laid s v) f (take n (numbered 0 cs)) → beaten c f.best v ≡ false → a ≤ g.trials
