@@ -1,14 +1,11 @@
-use Rattle.std.proofs.Common.{◌≡◌, [], ℤ, sym, arith, w32, SFits, to_z, of_z, rules}
+use Rattle.std.proofs.Common.{◌≡◌, ℤ, sym, arith, w32, SFits, to_z, of_z, rules}
 use Rattle.std.proofs.lemmas.Int.{ints}
 use Rattle.draft.specs.declared.call.Call.TheVariants.{Tone as ToneCall, Try as TryCall, Strike as StrikeCall, Bound as BoundCall, Level as LevelCall}
 use Rattle.settling.specs.declared.step.Step.TheVariants.{Enter, Settle as SettleStep}
 use Rattle.command.specs.declared.command.Verb.TheVariants.{Tone, Try, Strike, Bound, Level, Settle}
-use Rattle.command.specs.declared.word.Word.{Word}
+use Rattle.command.proofs.Lines.{blank}
 use Rattle.command.proofs.Telling.{first_amiss, second_amiss, third_amiss, step_told}
 use Rattle.command.proofs.command.Verb.step.Goals as goal
-
-abbrev blank : Word
-blank = record { bytes = record { ref_ptr = (0, 0); now = [] }; column = 0 }
 
 pub returns-in_err-read-in-Tone-len1 : goal.returns-in_err-read-in-Tone-len1
 returns-in_err-read-in-Tone-len1 c =
