@@ -47,8 +47,8 @@ pub record Parted (w a b : List ℕ) : Type 0 where
   pub joined : w ≡ a ++ (46 ∷ b)
 
 -- the last three bytes of a word, and what stands before a period before them
-pub parted : (w front b : List ℕ) → front ≡ take (length w - 3) w → b ≡ drop (length w - 3) w → 1 ≤ length front → get_or front (length front - 1) 0 ≡ 46 → Parted w (take (length front - 1) front) b
-parted w front b f t some e =
+pub parted_word : (w front b : List ℕ) → front ≡ take (length w - 3) w → b ≡ drop (length w - 3) w → 1 ≤ length front → get_or front (length front - 1) 0 ≡ 46 → Parted w (take (length front - 1) front) b
+parted_word w front b f t some e =
     let k : ℕ = length front - 1 in
     let last = drop_more front k 0 (omega arith) in
     let none = drop_all (k + 1) front (omega arith) in
@@ -59,7 +59,7 @@ parted w front b f t some e =
       joined = joined ∙ ap (λ l. l ++ b) whole ∙ append_assoc (take k front) (46 ∷ []) b;
     }
 
--- it is parted in one way
+-- it is parted_word in one way
 same_parts : (a b a' b' : List ℕ) → a ++ (46 ∷ b) ≡ a' ++ (46 ∷ b') → length b ≡ length b' → (a ≡ a') × (b ≡ b')
 same_parts a b a' b' e n =
     let len : length a ≡ length a' = omega (arith, ap length e, length-append a (46 ∷ b), length-append a' (46 ∷ b')) in

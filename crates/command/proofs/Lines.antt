@@ -4,7 +4,7 @@ use lib.ListN.{length-map}
 use Rattle.std.specs.List.{AllByRecursion, slice_get}
 use Rattle.std.proofs.lemmas.List.{take_all, take_rest, drop_more}
 use Rattle.command.specs.Reading.{verb_word, arguments, Begins, WellSpaced, Placed}
-use Rattle.command.specs.Telling.{views, Full, columns_of}
+use Rattle.command.specs.Telling.{views, Full, Given, columns_of}
 use Rattle.command.specs.Words.{words, placed}
 use Rattle.command.specs.declared.command.Verb.{Verb}
 use Rattle.command.specs.declared.command.Verb.TheVariants.{Tone, Try, Strike, Bound, Level, Settle}
@@ -55,10 +55,6 @@ first_is : (ws : List (List ℕ)) (v : List ℕ × ℕ) (vs : List (List ℕ × 
 first_is [] v vs e = absurd (omega (arith, ap length e))
 first_is (w ∷ ws) v vs e = cc e
 
--- the first of the words that are told apart is the name, and the others stand behind it
-pub parted : (line : List ℕ) (ws : List Word) (d : Word) → views ws ≡ take 5 (placed 1 (words line)) → 1 ≤ length ws → take 5 (placed 1 (words line)) ≡ views (get_or ws 0 d ∷ take (length ws - 1) (drop 1 ws))
-parted line ws d e some = sym e ∙ ap views (drop_more ws 0 d some ∙ ap (λ us. get_or ws 0 d ∷ us) (sym (take_rest ws 1)))
-
 module _ (line : List ℕ) (name : Word) (ws : List Word) (held : take 5 (placed 1 (words line)) ≡ views (name ∷ ws)) where
   pub begun : (v : Verb) → length line ≤ 80 → name.bytes.now ≡ verb_word v → Begins line v
   begun v short e = record { short = short; named = first_is (words line) (name.bytes.now, name.column) (views ws) held ∙ e }
@@ -88,3 +84,23 @@ module _ (line : List ℕ) (name : Word) (ws : List Word) (held : take 5 (placed
       let all = all_held (omega (arith, s.count, (one_to_three v).1)) in
       let at = λ (k : ℕ). sym (ap (λ us. slice_get (map (λ u. u.1) us) (suc k)) all ∙ ap (λ us. slice_get us k) (views_columns ws)) in
       record { first = at 0; second = at 1; third = at 2 }
+
+-- ---- the words that are told apart, of which the first is the name
+
+-- what a place without a word is read as
+abbrev pub blank : Word
+blank = record { bytes = record { ref_ptr = (0, 0); now = [] }; column = 0 }
+
+abbrev pub name_of : List Word → Word
+name_of ws = get_or ws 0 blank
+
+abbrev pub behind : List Word → List Word
+behind ws = take (length ws - 1) (drop 1 ws)
+
+pub parted : (line : List ℕ) (ws : List Word) → views ws ≡ take 5 (placed 1 (words line)) → 1 ≤ length ws → take 5 (placed 1 (words line)) ≡ views (name_of ws ∷ behind ws)
+parted line ws e some = sym e ∙ ap views (drop_more ws 0 blank some ∙ ap (λ us. name_of ws ∷ us) (sym (take_rest ws 1)))
+
+pub given : (line : List ℕ) (v : Verb) (ws : List Word) → views ws ≡ take 5 (placed 1 (words line)) → 1 ≤ length ws → length line ≤ 80 → (name_of ws).bytes.now ≡ verb_word v → Full (behind ws) → Given line v (name_of ws) (behind ws)
+given line v ws e some short named full =
+    let held = parted line ws e some in
+    record { begins = begun line (name_of ws) (behind ws) held v short named; held = held; full = full }

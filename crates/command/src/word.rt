@@ -20,7 +20,7 @@ pub(crate) struct Word<'a> {
 
 /// The first words of the line, as many as are told apart.
 pub(crate) fn first_words(line: &[u8]) -> Places<Word<'_>, MOST_WORDS>
-    ensures { views (listed result) ≡ take MOST_WORDS (placed 1 (words line.now)) }
+    ensures { views (listed result) ≡ take 5 (placed 1 (words line.now)) }
 {
     let mut words = Places::empty(Word {
         bytes: &[],

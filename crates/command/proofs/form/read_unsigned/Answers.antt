@@ -1,20 +1,20 @@
 use Rattle.std.proofs.Common.{◌≡◌, ℕ, ◌+◌, ◌-◌, ◌*◌, ◌^◌, ◌<◌, ◌≤◌, length, take, ℤ, pos, Some, Ok, Err, Result, ap, arith, w32, SFits, rules}
 use Rattle.std.specs.Result.{result_ok, OkIff}
-use Rattle.command.proofs.Cents.{parted, numerals, from_numerals, number_below}
+use Rattle.command.proofs.Cents.{parted_word, numerals, from_numerals, number_below}
 use Rattle.command.proofs.form.read_unsigned.Goals as goal
 
 pub returns-in_err-wholes : goal.returns-in_err-wholes
 returns-in_err-wholes c =
     let w = c.args.word.now in
     let front = c.in_ok-front.front.now in
-    let p = parted w front c.in_ok-front.thousandths.now (search rules) (search rules) (search rules) (search rules) in
+    let p = parted_word w front c.in_ok-front.thousandths.now (search rules) (search rules) (search rules) (search rules) in
     rw c.from_residual-in_err-wholes.ensures (λ a b h. c.in_err-wholes.ensures.form (numerals w (take (length front - 1) front) c.in_ok-front.thousandths.now a b p h).0)
 
 pub returns-in_err-thousandths : goal.returns-in_err-thousandths
 returns-in_err-thousandths c =
     let w = c.args.word.now in
     let front = c.in_ok-front.front.now in
-    let p = parted w front c.in_ok-front.thousandths.now (search rules) (search rules) (search rules) (search rules) in
+    let p = parted_word w front c.in_ok-front.thousandths.now (search rules) (search rules) (search rules) (search rules) in
     rw c.from_residual-in_err-thousandths.ensures (λ a b h. c.in_err-thousandths.ensures.form (numerals w (take (length front - 1) front) c.in_ok-front.thousandths.now a b p h).1)
 
 pub overflow_mul-wholes : goal.overflow_mul-wholes
@@ -39,7 +39,7 @@ returns c =
     let front = c.in_ok-front.front.now in
     let a = take (length front - 1) front in
     let b = c.in_ok-front.thousandths.now in
-    let p = parted w front b (search rules) (search rules) (search rules) (search rules) in
+    let p = parted_word w front b (search rules) (search rules) (search rules) (search rules) in
     let few : length a ≤ 5 = search rules in
     let wholes = c.in_ok-wholes.ensures.form in
     let thousandths = c.in_ok-thousandths.ensures.form in
