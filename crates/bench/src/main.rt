@@ -47,21 +47,22 @@ fn converse(rt: &HostRuntime) -> io::Result<()> {
     let mut answer = [0; ANSWER_ROOM];
     let mut chunk = [0; 4096];
     // nothing says that an input ends, so the turns are counted
+    // stays (speed): over bytes() each answer is flushed alone: 100,000 writes and 50 ms for 100,000 entries, not 350 and 13 ms
     for _ in 0..u64::MAX {
         let count = input.read(&mut chunk)?;
         if count == 0 {
             break;
         }
-        for byte in &chunk[0..count] {
+        for byte in &chunk[..count] {
             let end = transcript.hear(*byte, &mut answer);
             if end > 0 {
-                output.write_all(&answer[0..end])?;
+                output.write_all(&answer[..end])?;
             }
         }
         output.flush()?;
     }
     let end = transcript.finish(&mut answer);
-    output.write_all(&answer[0..end])?;
+    output.write_all(&answer[..end])?;
     output.flush()
 }
 

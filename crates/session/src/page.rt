@@ -12,8 +12,7 @@ use refusal::Refusal;
 /// A buffer that text is written into from its start on.
 ///
 /// Each method writes its text behind what is written already, where there is room for it, and changes nothing else.
-// stays (proof): not `impl fmt::Write` with `write!` and Display, since their contracts do not say when they succeed, so that no
-// proof could show that each answer is written
+// stays (proof): not by Display, as fmt::Write and Display tell nothing of an Err, and a line must always be answered
 #[derive(Drop)]
 pub(crate) struct Page<'a> {
     out: &'a mut [u8],

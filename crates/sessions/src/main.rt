@@ -20,38 +20,34 @@ fn main(rt: HostRuntime) -> io::Result<()> {
 fn short_buffer(rt: &HostRuntime) -> io::Result<()> {
     let mut session = Session::new();
     let mut answer = [0; ANSWER_ROOM];
-    match session.hear(b"tone 0.000", &mut answer[0..ANSWER_ROOM - 1]) {
+    match session.hear(b"tone 0.000", &mut answer[..ANSWER_ROOM - 1]) {
         Ok(end) => println!(rt; "short buffer: {end} bytes")?,
         Err(refusal) => println!(rt; "short buffer: {refusal}")?,
     }
     print!(rt; "settle 1: ")?;
-    answered(rt, &mut session, b"settle 1")
+    answered(&mut rt.stdout(), &mut session, b"settle 1")
 }
 
 /// Plays the session in the file: each line, and below it the answer.
 fn play(rt: &HostRuntime, name: &str) -> io::Result<()> {
     println!(rt; "== {name}")?;
+    let mut output = BufWriter::new(rt.alloc(), rt.stdout())?;
     let mut session = Session::new();
     for line in BufReader::new(rt.alloc(), File::open(rt, name)?)?.split(rt.alloc(), b'\n') {
         let line = line?;
-        let mut output = BufWriter::new(rt.alloc(), rt.stdout())?;
         output.write_all(b"> ")?;
         output.write_all(line.as_slice())?;
         output.write_all(b"\n")?;
-        output.flush()?;
-        answered(rt, &mut session, line.as_slice())?;
+        answered(&mut output, &mut session, line.as_slice())?;
     }
-    Ok(())
+    output.flush()
 }
 
 /// Writes the answer to a line.
-fn answered(rt: &HostRuntime, session: &mut Session, line: &[u8]) -> io::Result<()> {
+fn answered<W: Write>(output: &mut W, session: &mut Session, line: &[u8]) -> io::Result<()> {
     let mut answer = [0; ANSWER_ROOM];
-    let end = match session.hear(line, &mut answer) {
-        Ok(end) => end,
-        Err(refusal) => return println!(rt; "{refusal}"),
-    };
-    let mut output = BufWriter::new(rt.alloc(), rt.stdout())?;
-    output.write_all(&answer[0..end])?;
-    output.flush()
+    match session.hear(line, &mut answer) {
+        Ok(end) => output.write_all(&answer[..end]),
+        Err(refusal) => writeln!(output, "{refusal}"),
+    }
 }

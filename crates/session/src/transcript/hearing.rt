@@ -28,6 +28,7 @@ impl Transcript {
         ensures transcribed { (past said : List ℕ) → Transcribed self.old past said → Transcribed self.new (past ++ (byte ∷ [])) (said ++ take result answer.new) }
         ensures wrote { Wrote answer.old answer.new result }
     {
+        // stays (speed): Line::hear hands out a copy, with which 100,000 entries take 134 million instructions and not 68
         if ends_line(byte) {
             let end = self.answer(answer);
             self.line.clear();
