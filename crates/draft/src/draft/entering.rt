@@ -1,9 +1,10 @@
 //! What is entered into a draft.
 
-ghost use Rattle.std.specs.Prelude.{◌≡◌, ◌<◌, ◌≢◌, Some, None, IfOk, MatchResult};
+ghost use Rattle.std.specs.Prelude.{◌≡◌, ◌<◌, ◌≤◌, ◌≢◌, Some, None, IfOk, MatchResult};
 ghost use Rattle.draft.specs.Book.{Book, new_book};
 ghost use Rattle.draft.specs.Changes.{pair_fault};
 ghost use Rattle.draft.specs.Held.{Holds, ByBook, pair_place};
+ghost use Rattle.draft.specs.declared.fault.DraftFault.TheVariants.{OutOfLimits};
 ghost use Rattle.draft.specs.declared.call.Call.TheVariants.{Tone as ToneCall, Try, Strike, Bound, Level};
 
 use super::{Draft, FARTHEST_PITCH, LARGEST_BOUND, PAIRS};
@@ -74,11 +75,9 @@ impl Draft {
     pub fn bound(&mut self, tone: usize, other: usize, bound: u64) -> Result<(), DraftFault>
         ensures by_book { ByBook self.old self.new (Bound tone other bound) result }
     {
-        if bound > LARGEST_BOUND {
-            return Err(DraftFault::OutOfLimits);
-        }
+        let bound = held_bound(bound)?;
         let place = self.place_of(tone, other)?;
-        self.bounds[place] = bound as u32;
+        self.bounds[place] = bound;
         Ok(())
     }
 
@@ -88,10 +87,8 @@ impl Draft {
     pub fn level(&mut self, bound: u64) -> Result<(), DraftFault>
         ensures by_book { ByBook self.old self.new (Level bound) result }
     {
-        if bound > LARGEST_BOUND {
-            return Err(DraftFault::OutOfLimits);
-        }
-        self.bounds = [bound as u32; PAIRS];
+        let bound = held_bound(bound)?;
+        self.bounds = [bound; PAIRS];
         Ok(())
     }
 
@@ -113,4 +110,16 @@ impl Draft {
         let low = tone.min(other);
         Ok(high * (high - 1) / 2 + low)
     }
+}
+
+/// A bound as it is held.
+///
+/// Refuses a bound over 1,073,741,824.
+fn held_bound(bound: u64) -> Result<u32, DraftFault>
+    ensures cases { MatchResult result (λ held. (held ≡ bound) × (bound ≤ 1073741824)) (λ fault. (fault ≡ OutOfLimits) × (1073741824 < bound)) }
+{
+    if bound > LARGEST_BOUND {
+        return Err(DraftFault::OutOfLimits);
+    }
+    Ok(bound as u32)
 }

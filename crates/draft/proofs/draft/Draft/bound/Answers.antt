@@ -13,12 +13,13 @@ returns c =
     let t = c.args.tone in
     let u = c.args.other in
     let x = c.args.bound in
+    let held = c.in_ok-bound.ensures.cases in
     let place = c.in_ok-place.ensures in
     record {
-      by_book = taken_by d _ (Bound t u x) (λ b h. bound_within b t u x c.if-bound-gt-LARGEST_BOUND.false ∙ (place.by_book b h).0) (λ b h. record {
+      by_book = taken_by d _ (Bound t u x) (λ b h. bound_within b t u x held.1 ∙ (place.by_book b h).0) (λ b h. record {
         tones = h.tones;
         bounds = λ i j hi hj apart.
-            ap (λ p. get_or (set d.bounds p x) (pair_place i j) 0) (place.by_book b h).1
+            (λ k. get_or (set d.bounds ((place.by_book b h).1 k) (held.0 k)) (pair_place i j) 0)
             ∙ (bound_written d.bounds t u x i j d.pairs place.apart.0 place.apart.1 place.apart.2 hi hj apart ∙ ap (cond (same_pair t u i j) x) (h.bounds i j hi hj apart));
       });
     }
