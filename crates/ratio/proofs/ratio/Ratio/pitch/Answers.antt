@@ -11,6 +11,7 @@ next : (c : After-from) (total : ℤ) → total ≡ sum_of_pitches (take (length
     let sum : ℤ = total +ℤ held part in
     SFits w32 part × (SFits w32 sum × (held sum ≡ sum_of_pitches (take (length c.loop-pitch.yielded + 1) prime_pitches) c.args.self.now.exponents))
 next c total before =
+    let all : c.iter.result.rest.now ≡ prime_pitches = c.iter.ensures.rest in
     let turn = zip_turn prime_pitches c.args.self.now.exponents c.loop-pitch.yielded c.into_iter-pitch-iterator.result c.loop-pitch.pitch-iterator c.next.new.self _ (cc) (cc) c.loop-pitch.yielded_by _ c.in-Some.is c.next.ensures.steps in
     sum_next c.args.self.now _ total _ _ _ turn.0 before (turn.2 _) (turn.3 _) c.from.ensures
 
