@@ -35,23 +35,6 @@ returns-in_default-candidates g t c =
     let written = mapped (λ (l : Laid). l.number) s.laid c.map-sheet.result none_laid 0 (omega (arith, c.map-sheet.ensures.items.long, s.places)) (λ i h. search (rules, c.map-sheet.ensures.items.at i none_laid 0 (omega (arith, s.places)))) in
     record { searched = λ past v e. went_of dist cst d allowance k cost v (top past v e) s _ (went_end dist cst d allowance k cost s _ c.map-sheet.result written refl refl refl refl unbeaten none c.requires.within_allowance c.requires.within_draft) }
 
-pub candidates-init : goal.candidates-init
-candidates-init g t c =
-    let dist = g.M.Measure.dist c.args.self.now.yardstick.now.measure.now in
-    let cst = meant g.C.Costing in
-    let d = c.args.self.now.draft.now in
-    let allowance = c.args.self.now.allowance in
-    let k = c.args.k in
-    let s = c.args.search.now in
-    let cost = c.unwrap-cost.result in
-    let unbeaten : (n : ℕ) → beaten cst (seen n s.best) cost ≡ false = λ n. elim c.match-search.branch [
-      | in-Some+else-no_more w ↦ beaten_some dist cst d allowance k cost s w.in-Some.best w.in-Some.is n ∙ (sym w.no_more.ensures ∙ w.if-no_more.false)
-      | in_default w ↦ beaten_none dist cst d allowance k cost s w.in_default.is n
-    ] in
-    let cs = c.in-Some-candidates.candidates.now in
-    let read = λ (b : Book) (h : Holds d b). sym (c.in-Some-candidates.ensures.by_book b h) in
-    trying_start dist cst d allowance k cost cs read s unbeaten c.requires.within_allowance
-
 -- It stands behind the answers above, since a wrong body is told of at the first answer that fails.
 pub returns-then-no_more : goal.returns-then-no_more
 returns-then-no_more g t c =
