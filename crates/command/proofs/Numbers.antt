@@ -1,40 +1,32 @@
 -- The number that the digits of a word write.
-use Rattle.std.proofs.Common.{◌≡◌, ℕ, zero, suc, slice_index, ◌^◌, ◌<◌, ◌≤◌, true, List, [], ◌∷◌, length, Some, None, Ok, Err, decimal, Option, Result, sym, refl, arith, rules, tests}
-use Rattle.std.proofs.lemmas.Str.{IsUtf8-from_ascii}
-use Rattle.std.proofs.lemmas.Str.Parse.{parse_digits, digits_value_short}
-use Rattle.std.specs.Char.{is_ascii_digit}
-use Rattle.std.specs.List.{list_all}
-use Rattle.std.specs.Result.{result_ok, OkIff}
-use Rattle.std.specs.Str.{IsUtf8}
-use Rattle.std.specs.Str.Parse.{ParsesUnsigned}
-use Rattle.ratio.specs.Words.{Digits, value}
-use Rattle.ratio.proofs.Numerals.{digits_and_value, decimal_numeral, decimal_writes}
+use Rattle.std.proofs.Common.{◌≡◌, ℕ, ◌+◌, ◌-◌, ◌*◌, ◌^◌, ◌<◌, Bool, true, false, cond, ◌&&◌, leb, List, [], ◌∷◌, Some, None, decimal, Option, sym, refl, arith, rules}
+use Rattle.ratio.specs.Words.{Digits, value_on, Numeral}
+use Rattle.ratio.proofs.Numerals.{decimal_numeral, decimal_writes}
 use Rattle.command.specs.Forms.{NumberRead}
 
--- every byte passes the test of a digit
-pub digits_from_all : (w : List ℕ) → list_all is_ascii_digit w ≡ true → Digits w
-digits_from_all [] e = tt
-digits_from_all (c ∷ cs) e = search (rules, tests, digits_from_all cs)
+-- the byte is a digit
+abbrev pub is_digit : ℕ → Bool
+is_digit c = leb 48 c && leb c 57
 
-pub all_from_digits : (w : List ℕ) → Digits w → list_all is_ascii_digit w ≡ true
-all_from_digits [] d = refl
-all_from_digits (c ∷ cs) d = search (rules, tests, all_from_digits cs d.1)
+-- the number that the bytes write after digits that write n, if each is a digit
+abbrev pub read_on : ℕ → List ℕ → Option ℕ
+read_on n [] = Some n
+read_on n (c ∷ cs) = cond (is_digit c) (read_on (n * 10 + (c - 48)) cs) None
 
-pub digits_text : (w : List ℕ) → Digits w → IsUtf8 w
-digits_text w d = IsUtf8-from_ascii w (ascii w d)
-  where
-    ascii : (w : List ℕ) → Digits w → (i : ℕ) → slice_index w i < 128
-    ascii [] d i = omega arith
-    ascii (c ∷ w) d zero = omega arith
-    ascii (c ∷ w) d (suc i) = ascii w d.1 i
+pub read_digits : (n : ℕ) (cs : List ℕ) → Digits cs → read_on n cs ≡ Some (value_on n cs)
+read_digits n [] d = refl
+read_digits n (c ∷ cs) d = search (rules, read_digits (n * 10 + (c - 48)) cs d.1)
 
--- what the library reads of a word of digits that is short enough
-pub number_parsed : {E : Type 0} (w : List ℕ) → length w ≤ 10 → Digits w → (r : Result ℕ E) → ParsesUnsigned 64 10 w r → NumberRead w (result_ok r)
-number_parsed w few d r p = told r (parse_digits digits_and_value 64 w r p d)
-  where
-    told : {E : Type 0} (r : Result ℕ E) → OkIff r ((0 < length w) × (value w < 2 ^ 64)) (value w) → NumberRead w (result_ok r)
-    told (Ok n) h = (record { some = h.0.0; few = few; digits = d }, h.1)
-    told (Err e) h = λ n. h (n.some, omega (arith, digits_value_short digits_and_value w 10 d few))
+pub digits_read : (n : ℕ) (cs : List ℕ) (m : ℕ) → read_on n cs ≡ Some m → Digits cs × (m ≡ value_on n cs)
+digits_read n [] m e = search rules
+digits_read n (c ∷ cs) m e =
+    elim (is_digit c) as (λ t. is_digit c ≡ t → cond t (read_on (n * 10 + (c - 48)) cs) None ≡ Some m → Digits (c ∷ cs) × (m ≡ value_on n (c ∷ cs))) [
+      | true ↦ λ d g. search (rules, digits_read (n * 10 + (c - 48)) cs m g)
+      | false ↦ λ d g. grind arith
+    ] refl e
+
+pub none_read : (w : List ℕ) → read_on 0 w ≡ None → Numeral w → ⊥
+none_read w e h = grind (arith, read_digits 0 w h.digits, e)
 
 -- a word is read in one way
 pub number_read_once : (w : List ℕ) (r s : Option ℕ) → NumberRead w r → NumberRead w s → r ≡ s
