@@ -29,5 +29,6 @@ impl<'a, V: Copy> Model for Stack<'a, V> {
 }
 
 /// No slot of a stack is free.
+// stays (no plainer): `places` has such a unit struct for its lists; to share one would tie this crate to that for a word
 #[derive(Clone, Copy, Debug, PartialEq, Eq)]
 pub struct Full;

@@ -97,6 +97,7 @@ impl Measure for WeightedPrimes {
         ensures parts { SumOfParts self.now.weights (numerator a.now.exponents) (denominator a.now.exponents) result }
         ensures additive { Additive self.now.weights }
     {
+        // stays (no plainer): the trait's own body again, since only a body of its own can carry `parts` and `additive`
         self.distance(&Ratio::unison(), a)
     }
 }

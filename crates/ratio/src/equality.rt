@@ -9,7 +9,7 @@ ghost use Rattle.std.proofs.Common.{rules};
 use crate::ratio::Ratio;
 
 /// True exactly if the two ratios are one, which is so exactly if their exponents are equal.
-// stays (rule): a derived `==` is proved too, but promises `exponents` alone, and `equals` may not be lost
+// stays (rule): a derived `==` is proved too, but promises `exponents` alone; the public promise `equals` would be lost
 impl PartialEq for Ratio {
     ghost eq = { λ a b. pointwise int_eq a.exponents b.exponents };
 

@@ -49,6 +49,7 @@ impl Part {
 }
 
 /// How far the scan of a ratio word has come, with what it read so far.
+// stays (rule): a ratio word is read by a scanner in place, which matches its own state with the next byte
 #[derive(Clone, Copy)]
 enum Scanner {
     Start,

@@ -40,6 +40,7 @@ impl fmt::Display for Layer {
 /// A fault as it is told: its layer, its number, and the column of the line where it lies.
 ///
 /// Columns count bytes from 1; a call that has no line gives column 0.
+// stays (rule): a refusal is told as layer, number and column, and column 0 is what a call without a line tells
 #[derive(Clone, Copy, Debug, PartialEq, Eq)]
 pub struct Refusal {
     pub layer: Layer,

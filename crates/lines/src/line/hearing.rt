@@ -19,7 +19,6 @@ impl Line {
     }
 
     /// Reads one byte more of the line. Beyond 81 bytes it keeps nothing more.
-    // stays (no plainer): a ghost field states a fact of the fields and keeps no value, so the clauses name the bytes read so far
     pub fn push(&mut self, byte: u8)
         ensures heard { (past : List ℕ) → Heard self.old past → Heard self.new (past ++ (byte ∷ [])) }
     {
@@ -47,6 +46,7 @@ impl Line {
     {
         self.bytes.is_empty()
     }
+
     /// Hears one byte more of an input: the line that it ends, if it ends one. A new line then begins.
     pub fn hear(&mut self, byte: u8) -> Option<Line>
         ensures heard { (past : List ℕ) → Heard self.old (open_line past) → Heard self.new (open_line (past ++ (byte ∷ []))) }
