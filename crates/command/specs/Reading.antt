@@ -23,7 +23,12 @@ verb_word Bound = codes "bound"
 verb_word Level = codes "level"
 verb_word Settle = codes "settle"
 
--- how many words follow it
+-- the command that a word names, or the fault that it names none
+abbrev pub Named : List ℕ → Result Verb TextFault → Type 0
+Named w (Ok v) = w ≡ verb_word v
+Named w (Err f) = (f ≡ NoCommand) × ((v : Verb) → w ≢ verb_word v)
+
+-- how many words follow the word of a command
 abbrev pub arguments : Verb → ℕ
 arguments Tone = 1
 arguments Try = 2

@@ -2,12 +2,12 @@
 use Rattle.std.specs.Prelude.{◌≡◌, ℕ, List, ◌∷◌, map, take, Some, None, Ok, Err, Option, Result, ◌≢◌, [], slice_get}
 use Rattle.std.specs.List.{AllByRecursion}
 use Rattle.settling.specs.declared.step.Step.{Step}
-use Rattle.command.specs.Reading.{verb_word, Begins, Read}
+use Rattle.command.specs.Reading.{Begins, Read}
 use Rattle.command.specs.Words.{words, placed}
 use Rattle.command.specs.declared.command.Columns.{Columns}
 use Rattle.command.specs.declared.command.Verb.{Verb}
 use Rattle.command.specs.declared.fault.TextFault.{TextFault}
-use Rattle.command.specs.declared.fault.TextFault.TheVariants.{NoCommand, NoForm}
+use Rattle.command.specs.declared.fault.TextFault.TheVariants.{NoForm}
 use Rattle.command.specs.declared.word.Word.{Word}
 
 -- words as plain data: each with its bytes and its column
@@ -22,11 +22,6 @@ Full ws = AllByRecursion (λ w. w.bytes.now ≢ []) ws
 abbrev pub FormRead : {A : Type 0} → (Option A → Type 0) → ℕ → Result A TextFault → Type 0
 FormRead P column (Ok x) = P (Some x)
 FormRead P column (Err f) = P None × (f ≡ NoForm column)
-
--- the command that a word names, or the fault that it names none
-abbrev pub Named : List ℕ → Result Verb TextFault → Type 0
-Named w (Ok v) = w ≡ verb_word v
-Named w (Err f) = (f ≡ NoCommand) × ((v : Verb) → w ≢ verb_word v)
 
 -- a line that begins with this command has this name and these words behind it, of which at most four are told apart, and
 -- each of these has a byte

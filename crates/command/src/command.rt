@@ -1,8 +1,8 @@
 //! The command that a line says.
 
 ghost use Rattle.std.specs.Prelude.{◌≡◌, [], ◌∷◌, IfOk};
-ghost use Rattle.command.specs.Reading.{Read, step_read, Placed};
-ghost use Rattle.command.specs.Telling.{Named, Tell, columns_of};
+ghost use Rattle.command.specs.Reading.{Named, Read, step_read, Placed};
+ghost use Rattle.command.specs.Telling.{Tell, columns_of};
 ghost use Rattle.command.specs.Words.{CutAtSpaces};
 
 use crate::fault::TextFault;
