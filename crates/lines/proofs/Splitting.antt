@@ -1,5 +1,5 @@
 -- How the lines of an input follow from those of its parts.
-use Rattle.std.proofs.Common.{◌≡◌, ℕ, Bool, true, false, cond, eqb, List, [], ◌∷◌, ◌++◌, sym, refl, append_assoc, append-nil, arith}
+use Rattle.std.proofs.Common.{◌≡◌, ℕ, Bool, true, false, cond, eqb, List, [], ◌∷◌, ◌++◌, sym, refl, append_assoc, append-nil, arith, ◌≢◌}
 use Rattle.std.proofs.ByRecursion.{All-push}
 use Rattle.std.proofs.lemmas.Bool.{eqb-false}
 use Rattle.std.proofs.lemmas.Bool.Decides.{nat_tests}
@@ -23,6 +23,13 @@ ended_push past byte = ended-++ [] past (byte ∷ [])
 -- the open line with one byte more
 pub open_push : (past : List ℕ) (byte : ℕ) → open_line (past ++ (byte ∷ [])) ≡ cond (eqb byte 10) [] (open_line past ++ (byte ∷ []))
 open_push past byte = open-++ [] past (byte ∷ [])
+
+-- a byte that leaves no open line is 10, and one that leaves a line is not
+pub ends_all : (byte : ℕ) → open_line (byte ∷ []) ≡ [] → byte ≡ 10
+ends_all byte e = grind (arith, nat_tests)
+
+pub ends_none : (byte : ℕ) → open_line (byte ∷ []) ≡ byte ∷ [] → byte ≢ 10
+ends_none byte e ten = grind (arith, nat_tests)
 
 -- the ended lines, each with its byte 10, and the open line are the input
 pub rejoined : (line bs : List ℕ) → rejoin (ended_on line bs) (open_on line bs) ≡ line ++ bs

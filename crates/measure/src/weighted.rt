@@ -71,7 +71,7 @@ impl Measure for WeightedPrimes {
 
     ghost triangle = { λ m a b c. weighted_triangle m.weights a.exponents b.exponents c.exponents (omega (arith, m.six, b.six)) };
 
-    ghost bounded = { λ m a b. omega (arith, weighted_bounded m.weights m.allowed a b) };
+    ghost bounded = { λ m a b. weighted_bounded m.weights m.six m.allowed a b };
 
     /// The distance, which is 0 only between equal ratios, and is the harmonic distance with these weights as the
     /// disharmonicities of the primes.

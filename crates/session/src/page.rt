@@ -1,6 +1,6 @@
 //! The texts of answers, written into a buffer that is lent.
 
-ghost use Rattle.std.specs.Prelude.{◌≡◌, ◌≤◌, ◌∷◌, [], ◌++◌, length, decimal};
+ghost use Rattle.std.specs.Prelude.{◌≡◌, ◌+◌, ◌<◌, ◌≤◌, ◌∷◌, [], ◌++◌, length, decimal};
 ghost use Rattle.ratio.specs.Printing.{ratio_text};
 ghost use Rattle.refusal.specs.Texts.{refusal_line};
 
@@ -41,6 +41,7 @@ impl<'a> Page<'a> {
     /// Writes the bytes of `text`.
     pub(crate) fn text(&mut self, text: &[u8])
         ensures written { Written self.old text.now self.new }
+        ensures no_room { length self.old.out.now < self.old.end + length text.now → (self.new.end ≡ self.old.end) × (self.new.out.now ≡ self.old.out.now) }
     {
         let end = self.end + text.len();
         if end <= self.out.len() {

@@ -39,8 +39,9 @@ fn play(rt: &HostRuntime, name: &str) -> io::Result<()> {
         output.write_all(line.as_slice())?;
         output.write_all(b"\n")?;
         answered(&mut output, &mut session, line.as_slice())?;
+        output.flush()?;
     }
-    output.flush()
+    Ok(())
 }
 
 /// Writes the answer to a line.

@@ -1,7 +1,7 @@
 //! How a line is read byte by byte.
 
-ghost use Rattle.std.specs.Prelude.{◌≡◌, ℕ, List, [], ◌∷◌, ◌++◌, Decides};
-ghost use Rattle.lines.specs.Hearing.{held, Heard, OneMore};
+ghost use Rattle.std.specs.Prelude.{◌≡◌, ℕ, List, [], ◌∷◌, ◌++◌, Decides, MatchOption, ◌≢◌};
+ghost use Rattle.lines.specs.Hearing.{held, Heard, OneByte, OneMore};
 ghost use Rattle.lines.specs.Splitting.{ended, open_line, all_lines};
 
 use super::Line;
@@ -49,6 +49,7 @@ impl Line {
 
     /// Hears one byte more of an input: the line that it ends, if it ends one. A new line then begins.
     pub fn hear(&mut self, byte: u8) -> Option<Line>
+        ensures byte { (past : List ℕ) → Heard self.old past → OneByte byte past result self.new }
         ensures heard { (past : List ℕ) → Heard self.old (open_line past) → Heard self.new (open_line (past ++ (byte ∷ []))) }
         ensures tells { (past : List ℕ) → Heard self.old (open_line past) → OneMore result (open_line past) (ended past) (ended (past ++ (byte ∷ []))) }
     {
@@ -64,6 +65,7 @@ impl Line {
 
     /// The last line of the input, if it is not empty: no byte 10 has ended it.
     pub fn finish(&self) -> Option<Line>
+        ensures rest { MatchOption result (held self.now ≡ []) (λ told. (told ≡ self.now) × (held self.now ≢ [])) }
         ensures tells { (past : List ℕ) → Heard self.now (open_line past) → OneMore result (open_line past) (ended past) (all_lines past) }
     {
         (!self.is_empty()).then_some(*self)

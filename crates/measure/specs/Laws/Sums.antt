@@ -1,6 +1,6 @@
 -- The sum of weights times distances, place by place: it is a distance, it is bounded, and it tells lists apart.
-use Rattle.std.specs.Prelude.{◌≡◌, ℕ, ◌+◌, ◌*◌, ◌≤◌, List, [], ◌∷◌, length, ℤ, refl}
-use Rattle.std.proofs.Common.{mul-zero, mul-add, mul-le-mul, mul-le-mul_left, mul-le-mul_right, arith}
+use Rattle.std.specs.Prelude.{◌≡◌, ℕ, zero, suc, ◌+◌, ◌*◌, ◌<◌, ◌≤◌, List, [], ◌∷◌, length, take, ℤ, pos, slice_index, slice_index_or, refl}
+use Rattle.std.proofs.Common.{mul-zero, mul-add, mul-le-mul, mul-le-mul_left, mul-le-mul_right, add-one, arith}
 use Rattle.std.specs.List.{AllByRecursion}
 use Rattle.ratio.specs.Limits.{Within}
 use Rattle.measure.specs.Apart.{apart}
@@ -43,11 +43,28 @@ abbrev largest : List ℕ → ℕ
 largest [] = 0
 largest (l ∷ ls) = 1000000 * (l + l) + largest ls
 
--- the sum is within the largest
-pub weighted_within : (ws : List ℕ) (xs ys : List ℤ) (ls : List ℕ) → AllByRecursion (λ w. w ≤ 1000000) ws → length xs ≤ length ls → Within ls xs → Within ls ys → weighted ws xs ys ≤ largest ls
-weighted_within [] xs ys ls small n h i = omega arith
-weighted_within (w ∷ ws) [] ys ls small n h i = omega arith
-weighted_within (w ∷ ws) (x ∷ xs) [] ls small n h i = omega arith
-weighted_within (w ∷ ws) (x ∷ xs) (y ∷ ys) [] small n h i = absurd (omega arith)
-weighted_within (w ∷ ws) (x ∷ xs) (y ∷ ys) (l ∷ ls) small n h i =
-    omega (arith, mul-le-mul small.0 (apart_bounded x y l l h.0 i.0), weighted_within ws xs ys ls small.1 (omega arith) h.1 i.1)
+-- over some of the places the sum is within the largest
+pub weighted_within : (k : ℕ) (ws : List ℕ) (xs ys : List ℤ) (ls : List ℕ) → AllByRecursion (λ w. w ≤ 1000000) ws → length xs ≤ length ls → Within ls xs → Within ls ys
+    → weighted (take k ws) xs ys ≤ largest ls
+weighted_within zero ws xs ys ls small n h i = omega arith
+weighted_within (suc k) [] xs ys ls small n h i = omega arith
+weighted_within (suc k) (w ∷ ws) [] ys ls small n h i = omega arith
+weighted_within (suc k) (w ∷ ws) (x ∷ xs) [] ls small n h i = omega arith
+weighted_within (suc k) (w ∷ ws) (x ∷ xs) (y ∷ ys) [] small n h i = absurd (omega arith)
+weighted_within (suc k) (w ∷ ws) (x ∷ xs) (y ∷ ys) (l ∷ ls) small n h i =
+    omega (arith, mul-le-mul small.0 (apart_bounded x y l l h.0 i.0), weighted_within k ws xs ys ls small.1 (omega arith) h.1 i.1)
+
+weighted_suc : (k : ℕ) (ws : List ℕ) (xs ys : List ℤ) → k < length ws → k < length xs → k < length ys
+    → weighted (take (suc k) ws) xs ys ≡ weighted (take k ws) xs ys + slice_index ws k * apart (slice_index_or xs k (pos 0)) (slice_index_or ys k (pos 0))
+weighted_suc k [] xs ys h i j = absurd (omega arith)
+weighted_suc k (w ∷ ws) [] ys h i j = absurd (omega arith)
+weighted_suc k (w ∷ ws) (x ∷ xs) [] h i j = absurd (omega arith)
+weighted_suc zero (w ∷ ws) (x ∷ xs) (y ∷ ys) h i j = omega arith
+weighted_suc (suc k) (w ∷ ws) (x ∷ xs) (y ∷ ys) h i j =
+    let rest = weighted_suc k ws xs ys (omega arith) (omega arith) (omega arith) in
+    omega arith
+
+-- one more place
+pub weighted_next : (k : ℕ) (ws : List ℕ) (xs ys : List ℤ) → k < length ws → k < length xs → k < length ys
+    → weighted (take (k + 1) ws) xs ys ≡ weighted (take k ws) xs ys + slice_index ws k * apart (slice_index_or xs k (pos 0)) (slice_index_or ys k (pos 0))
+weighted_next k ws xs ys h i j = rw add-one (weighted_suc k ws xs ys h i j)

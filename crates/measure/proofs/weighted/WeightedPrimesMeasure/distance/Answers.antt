@@ -23,7 +23,7 @@ sum-requires-clause-fits c =
     let a = c.args.a.now in
     let b = c.args.b.now in
     fits_from_yields_list c.map.result _ (YieldsList-from_map _ part (YieldsList-at c.map.ensures.source (places m.weights a.exponents b.exponents (cc) (cc) cc)) c.map.ensures.closure (λ x r q k. search rules))
-    (omega (arith, sum-parts m.weights a.exponents b.exponents, weighted_bounded m.weights m.allowed a b))
+    (omega (arith, sum-parts m.weights a.exponents b.exponents, weighted_bounded m.weights m.six m.allowed a b))
 
 pub returns : goal.returns
 returns c =
