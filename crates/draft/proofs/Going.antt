@@ -23,12 +23,6 @@ taken_by d d' call none done = record {
   unchanged = λ e. absurd (false≢true e);
 }
 
--- the fault of a part of the call is told as the call's
-pub told_by : (d : Draft) (call : Call) (r : Result (Unit {0}) DraftFault) (g f : DraftFault) → IsErrAnd r (λ e. e ≡ g) → g ≡ f → ((b : Book) → Holds d b → refusal b call ≡ Some f) → ByBook d d call r
-told_by d call r g f told same why =
-    let p = err_from_is_err_and r told in
-    subst (ByBook d d call) (sym (p.1 ∙ ap Err (p.2 ∙ same))) (refused_by d call f why)
-
 -- a call that goes as another goes, and tells of its refusal by a fault of its own
 pub as_pushed : {E : Type 0} (d d' : Draft) (call : Call) (f : DraftFault) (pushed : Result (Unit {0}) E) (r : Result (Unit {0}) DraftFault) (P : Unit {0} → Type 0) (Q : E → Type 0)
     → MatchResult pushed P Q → MatchResult pushed (λ x. r ≡ Ok x) (λ _. IsErrAnd r (λ g. g ≡ f)) → (P tt → ByBook d d' call (Ok tt)) → ((e : E) → Q e → ByBook d d' call (Err f)) → ByBook d d' call r

@@ -20,6 +20,9 @@ module _ (b : Book) where
   pub tone_taken : (pitch : ℤ) → nat_abs pitch ≤ 12000000 → length b.tones < 32 → refusal b (Tone pitch) ≡ None
   tone_taken pitch h i = grind (arith, nat_tests)
 
+  pub strike_absent : (t k : ℕ) → length b.tones ≤ t → refusal b (Strike t k) ≡ Some NoTone
+  strike_absent t k h = grind (arith, nat_tests)
+
   pub strike_none : (t k : ℕ) → t < length b.tones → length (candidates_of b t) ≤ k → refusal b (Strike t k) ≡ Some NoCandidate
   strike_none t k h i = grind (arith, nat_tests)
 

@@ -1,15 +1,15 @@
 -- What is read of a book for the line of a tone, and how the lines follow one another. Assumes nothing.
-use Rattle.std.proofs.Common.{◌≡◌, ℕ, zero, suc, ◌+◌, ◌^◌, ◌<◌, ◌≤◌, List, [], ◌∷◌, ◌++◌, map, length, get_or, take, ℤ, pos, ◌-ℤ◌, nat_abs, Some, None, codes, decimal, Option, unwrap_or, sym, refl, ap, ◌∙◌, append_assoc, arith, length-append, Bor, MatchOption}
+use Rattle.std.proofs.Common.{◌≡◌, ℕ, zero, suc, ◌+◌, ◌^◌, ◌<◌, ◌≤◌, List, [], ◌∷◌, ◌++◌, map, length, get_or, ℤ, pos, ◌-ℤ◌, nat_abs, Some, None, codes, decimal, Option, unwrap_or, sym, ap, ◌∙◌, append_assoc, arith, length-append, Bor, MatchOption}
 use Rattle.std.specs.Option.{option_map}
 use Rattle.std.proofs.lemmas.List.{get_or_past}
-use Rattle.std.specs.List.{flat_map, slice_get}
-use Rattle.draft.specs.Book.{Noted, Book, candidates_of}
+use Rattle.std.specs.List.{flat_map}
+use Rattle.draft.specs.Book.{Book, candidates_of}
 use Rattle.draft.proofs.Holding.{held_count, held_book}
-use Rattle.draft.specs.Held.{book_of}
+use Rattle.draft.specs.Held.{book_of, listed, noted}
+use Rattle.draft.specs.declared.tone.Tone.{Tone}
 use Rattle.draft.specs.declared.draft.Draft.{Draft}
 use Rattle.settling.proofs.Listed.{below_more, gathered_push}
 use Rattle.settling.specs.Settling.{below}
-use Rattle.draft.specs.Reading.{pitch_in, candidates_in}
 use Rattle.ratio.specs.Pitches.{ratio_pitch}
 use Rattle.ratio.specs.Printing.{ratio_text}
 use Rattle.ratio.specs.declared.ratio.Ratio.{Ratio}
@@ -24,27 +24,22 @@ pub lent_or : {X : Type 0} (xs : List X) (i : ℕ) (d : X) (o : Option (Bor X)) 
 lent_or xs i d None h = sym (get_or_past xs i d h)
 lent_or xs i d (Some x) h = h.1 d
 
--- what there is at a place, or else d
-nth_or : {A B : Type 0} (f : A → B) (xs : List A) (i : ℕ) (d : B) → unwrap_or (option_map f (slice_get xs i)) d ≡ get_or (map f xs) i d
-nth_or f [] i d = refl
-nth_or f (x ∷ xs) zero d = refl
-nth_or f (x ∷ xs) (suc i) d = nth_or f xs i d
+-- a listed tone by its number, as the book notes it
+noted_pitch : (ts : List Tone) (k : ℕ) → k < length ts → (x : Tone) → x ≡ get_or ts k x → x.pitch ≡ get_or (map (λ n. n.pitch) (map noted ts)) k (pos 0)
+noted_pitch [] k h x is = absurd (omega arith)
+noted_pitch (y ∷ ts) zero h x is = ap (λ w. w.pitch) is
+noted_pitch (y ∷ ts) (suc k) h x is = noted_pitch ts k (omega arith) x is
 
--- the candidates that are read are the tone's
-candidates_read : (b : Book) (t : ℕ) (o : Option (List Ratio)) → o ≡ candidates_in b t → unwrap_or o [] ≡ candidates_of b t
-candidates_read b t o e = ap (λ x. unwrap_or x []) e ∙ nth_or (λ (n : Noted). n.candidates) b.tones t []
+pub tone_pitch : (b : Book) (ts : List Tone) → map noted ts ≡ b.tones → (k : ℕ) → k < length ts → (x : Tone) → x ≡ get_or ts k x → x.pitch ≡ pitch_of b k
+tone_pitch b ts held k h x is = noted_pitch ts k h x is ∙ ap (λ ns. get_or (map (λ n. n.pitch) ns) k (pos 0)) held
 
--- the candidates that are lent, or else none, are the tone's
-pub candidates_lent : (b : Book) (t : ℕ) (o : Option (Bor (List Ratio))) (d x : Bor (List Ratio)) → d.now ≡ [] → x ≡ unwrap_or o d → option_map (λ x. x.now) o ≡ candidates_in b t → x.now ≡ candidates_of b t
-candidates_lent b t o d x none is read = ap (λ y. y.now) is ∙ behind o ∙ candidates_read b t (option_map (λ x. x.now) o) read
-  where
-    behind : (o : Option (Bor (List Ratio))) → (unwrap_or o d).now ≡ unwrap_or (option_map (λ x. x.now) o) []
-    behind None = none
-    behind (Some y) = refl
+noted_listed : (ts : List Tone) (k : ℕ) → k < length ts → (x : Tone) → x ≡ get_or ts k x → listed x ≡ get_or (map (λ n. n.candidates) (map noted ts)) k []
+noted_listed [] k h x is = absurd (omega arith)
+noted_listed (y ∷ ts) zero h x is = ap listed is
+noted_listed (y ∷ ts) (suc k) h x is = noted_listed ts k (omega arith) x is
 
--- the pitch that is read is the tone's
-pub pitch_read : (b : Book) (t : ℕ) (o : Option ℤ) → o ≡ pitch_in b t → unwrap_or o (pos 0) ≡ pitch_of b t
-pitch_read b t o e = ap (λ x. unwrap_or x (pos 0)) e ∙ nth_or (λ (n : Noted). n.pitch) b.tones t (pos 0)
+pub tone_listed : (b : Book) (ts : List Tone) → map noted ts ≡ b.tones → (k : ℕ) → k < length ts → (x : Tone) → x ≡ get_or ts k x → listed x ≡ candidates_of b k
+tone_listed b ts held k h x is = noted_listed ts k h x is ∙ ap (λ ns. get_or (map (λ n. n.candidates) ns) k []) held
 
 -- a number of 64 bits takes at most 20 bytes
 pub number_short : (n : ℕ) → n < 2 ^ 64 → length (decimal n) ≤ 20

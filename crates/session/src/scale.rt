@@ -1,13 +1,14 @@
 //! The answer that tells a scale.
 
 ghost use Rattle.std.specs.Prelude.{◌≡◌, ◌≤◌, length, slice_index_or};
-ghost use Rattle.draft.specs.Book.{Book, candidates_of};
-ghost use Rattle.draft.specs.Held.{Holds};
+ghost use Rattle.draft.specs.Book.{Book};
+ghost use Rattle.draft.specs.Held.{Holds, listed};
 ghost use Rattle.ratio.specs.Parts.{unison};
 ghost use Rattle.session.specs.Answers.{heading, ratio_line, scale_text};
 
 use crate::page::Page;
 use draft::draft::Draft;
+use draft::tone::Tone;
 use ratio::ratio::Ratio;
 use settling::settle::{Settled, Sheet};
 
@@ -20,8 +21,8 @@ impl<'a> Page<'a> {
         ensures short { (b : Book) → Holds draft.now b → length (scale_text b sheet.now settled) ≤ 1280 }
     {
         self.heading(settled);
-        for (tone, number) in sheet[..draft.tones()].iter().enumerate() {
-            self.tone(&laid(draft, tone, *number), draft.pitch(tone).unwrap_or(0));
+        for (tone, number) in draft.listed().iter().zip(sheet) {
+            self.tone(&laid(tone, *number), tone.pitch());
         }
     }
 
@@ -49,11 +50,10 @@ impl<'a> Page<'a> {
 }
 
 /// The ratio that this number of a tone lays there.
-fn laid(draft: &Draft, tone: usize, number: u8) -> Ratio
-    ensures laid { (b : Book) → Holds draft.now b → result ≡ slice_index_or (candidates_of b tone) number unison }
+fn laid(tone: &Tone, number: u8) -> Ratio
+    ensures laid { result ≡ slice_index_or (listed tone.now) number unison }
 {
-    let candidates = draft.candidates(tone).unwrap_or(&[]);
-    candidates
+    tone.candidates()
         .get(usize::from(number))
         .copied()
         .unwrap_or(Ratio::unison())

@@ -1,8 +1,9 @@
 //! What is entered into a draft.
 
 ghost use Rattle.std.specs.Prelude.{◌≡◌, ◌<◌, ◌≤◌, ◌≢◌, Some, None, IfOk, MatchResult};
+ghost use Rattle.std.specs.Fn.{FnOnceReturnsAtMut};
 ghost use Rattle.draft.specs.Book.{Book, new_book};
-ghost use Rattle.draft.specs.Changes.{pair_fault};
+ghost use Rattle.draft.specs.Changes.{ToneChanged, pair_fault};
 ghost use Rattle.draft.specs.Held.{Holds, ByBook, pair_place};
 ghost use Rattle.draft.specs.declared.fault.DraftFault.TheVariants.{OutOfLimits};
 ghost use Rattle.draft.specs.declared.call.Call.TheVariants.{Tone as ToneCall, Try, Strike, Bound, Level};
@@ -50,10 +51,7 @@ impl Draft {
         ensures by_book { ByBook self.old self.new (Try tone numerator denominator) result }
     {
         let ratio = Ratio::new(numerator, denominator)?;
-        let mut changed = self.tones.get(tone).ok_or(DraftFault::NoTone)?;
-        changed.add(ratio)?;
-        self.tones.replace(tone, changed);
-        Ok(())
+        self.change_tone(tone, |held| held.add(ratio))
     }
 
     /// A candidate of a tone is taken out, and those after it move down by one.
@@ -62,9 +60,22 @@ impl Draft {
     pub fn strike(&mut self, tone: usize, candidate: usize) -> Result<(), DraftFault>
         ensures by_book { ByBook self.old self.new (Strike tone candidate) result }
     {
-        // stays (no plainer): as one with `try_ratio`, over a closure, each closure would repeat the clauses of `add` or `strike`.
+        self.change_tone(tone, |held| held.strike(candidate))
+    }
+
+    /// Changes a tone as told, or leaves it as it is if that is refused.
+    ///
+    /// Refuses a tone that is not there, then what the change refuses.
+    fn change_tone<F: FnOnce(&mut Tone) -> Result<(), DraftFault>>(
+        &mut self,
+        tone: usize,
+        change: F,
+    ) -> Result<(), DraftFault>
+        requires { F.IsAlwaysCallable change }
+        ensures changed { ToneChanged (FnOnceReturnsAtMut F.FnOnce change) self.old self.new tone result }
+    {
         let mut changed = self.tones.get(tone).ok_or(DraftFault::NoTone)?;
-        changed.strike(candidate)?;
+        change(&mut changed)?;
         self.tones.replace(tone, changed);
         Ok(())
     }

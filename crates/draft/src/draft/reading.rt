@@ -1,12 +1,13 @@
 //! What a draft holds.
 
-ghost use Rattle.std.specs.Prelude.{◌≡◌, length};
+ghost use Rattle.std.specs.Prelude.{◌≡◌, length, map};
 ghost use Rattle.draft.specs.Book.{Book};
-ghost use Rattle.draft.specs.Held.{Holds};
+ghost use Rattle.draft.specs.Held.{Holds, noted};
 ghost use Rattle.draft.specs.Reading.{pitch_in, candidates_in, bound_in};
 ghost use Rattle.std.specs.Option.{option_map};
 
 use super::Draft;
+use crate::tone::Tone;
 use ratio::ratio::Ratio;
 
 impl Draft {
@@ -16,6 +17,13 @@ impl Draft {
         ensures some_book { (b : Book) × Holds self.now b }
     {
         self.tones.len()
+    }
+
+    /// The tones, in the order of entry.
+    pub fn listed(&self) -> &[Tone]
+        ensures by_book { (b : Book) → Holds self.now b → map noted result.now ≡ b.tones }
+    {
+        self.tones.as_slice()
     }
 
     /// The pitch of a tone, in thousandths of a cent, or `None` if there is no such tone.

@@ -8,4 +8,4 @@ use Rattle.session.specs.Pages.{Written}
 use Rattle.session.proofs.page.Page.scale.Given as goal
 
 abbrev pub invariant-loop-tone : goal.invariant-loop-tone
-invariant-loop-tone l = (b : Book) → Holds l.draft b → Written l.initial.self (flat_map (tone_line b l.sheet) (below l.tone)) l.self × (length (flat_map (tone_line b l.sheet) (below l.tone)) ≤ 37 * l.tone)
+invariant-loop-tone l = (b : Book) → Holds l.draft b → Written l.initial.self (flat_map (tone_line b l.sheet) (below (length l.yielded))) l.self × (length (flat_map (tone_line b l.sheet) (below (length l.yielded))) ≤ 37 * length l.yielded)
