@@ -1,5 +1,6 @@
 -- From what the search has found to what a settling promises. Assumes nothing.
-use Rattle.std.proofs.Common.{◌≡◌, ℕ, ◌<◌, ◌≤◌, List, [], ◌++◌, length, take, drop, Some, None, Ok, Err, Result, sym, refl, ap, ◌∙◌, subst, arith}
+use Rattle.std.proofs.Common.{◌≡◌, ℕ, ◌<◌, ◌≤◌, List, [], ◌++◌, length, take, drop, Some, None, Ok, Err, Result, Option, sym, refl, ap, ◌∙◌, subst, arith}
+use Rattle.std.specs.Option.{ok_or}
 use Rattle.std.proofs.lemmas.Bool.Decides.{nat_tests}
 use Rattle.draft.specs.Book.{Book}
 use Rattle.draft.proofs.Holding.{held_length}
@@ -21,6 +22,10 @@ use Rattle.settling.proofs.Explored.{nothing, Settles, explored}
 
 well_put : (b : Book) (places allowance : ℕ) → allowance ≤ 1000000000 → 33 ≤ places → 0 < length b.tones → ill_put b places allowance ≡ None
 well_put b places allowance small wide some = grind (arith, nat_tests)
+
+-- the fault of a missing value
+pub refused : {T E : Type 0} (o : Option T) (x e : E) → o ≡ None → Err x ≡ ok_or o e → x ≡ e
+refused o x e none is = cc
 
 module _ {V : Type 0} (dist : Ratio → Ratio → ℕ) (c : Costing V) (law : Lawful c) (d : Draft) (allowance places : ℕ) (small : allowance ≤ 1000000000) (wide : 33 ≤ places) (some : 0 < length (entered_tones d))
     (start : Search V) (none : start.best ≡ None) (begins : start.trials ≡ 0) where

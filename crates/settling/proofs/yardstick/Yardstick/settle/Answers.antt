@@ -7,8 +7,9 @@ use Rattle.draft.proofs.Holding.{held_book, held_length}
 use Rattle.settling.specs.Posed.{meant}
 use Rattle.settling.specs.Promise.{Settling}
 use Rattle.settling.specs.Settling.{Lawful}
+use Rattle.settling.specs.declared.fault.SearchFault.TheVariants.{NoScale}
 use Rattle.settling.proofs.Descent.{few_tones, first_on}
-use Rattle.settling.proofs.Settled.{spent_settles, none_settles, best_settles}
+use Rattle.settling.proofs.Settled.{refused, spent_settles, none_settles, best_settles}
 use Rattle.settling.proofs.yardstick.Yardstick.settle.Given.{Over}
 use Rattle.settling.proofs.yardstick.Yardstick.settle.Goals as goal
 
@@ -45,8 +46,8 @@ returns-in_err-descend g c =
           (spent_settles dist cst (lawful g) d c.args.allowance places small wide some _ refl refl over b h sheet);
     }
 
-pub returns-in_default : goal.returns-in_default
-returns-in_default g c =
+pub returns-in_err-best : goal.returns-in_err-best
+returns-in_err-best g c =
     let dist = g.M.Measure.dist c.args.self.now.measure.now in
     let cst = meant g.C.Costing in
     let d = c.args.draft.now in
@@ -58,7 +59,13 @@ returns-in_default g c =
     let some : 0 < length (entered_tones d) = omega (arith, held_length d (book_of d) (held_book d), count (book_of d) (held_book d), c.if-tones-eq0.false) in
     let first = (first_on c.push.result (room c.over.result) c.nothing.result g.C.Costing.nil c.over.result.values c.push.new.self.values c.push.ensures.put c.over.ensures.empty c.nothing.ensures (omega (arith, c.over.ensures.size))).1 in
     let went = c.in_ok-descend.ensures.searched [] g.C.Costing.nil first in
-    record { settles = λ b h. none_settles dist cst (lawful g) d c.args.allowance places small wide some _ refl refl c.descend.new.search went c.in_default.is b h sheet }
+    let none = c.in_err-best.ensures.ok_part in
+    let is = err_from_is_err_and c.from_residual-in_err-best.result c.from_residual-in_err-best.ensures.1 in
+    let fault = is.2 ∙ refused c.descend.new.search.best _ (NoScale c.descend.new.search.trials) none c.in_err-best.ensures.value in
+    record {
+      settles = λ b h. subst (λ r. Settling dist cst b c.args.allowance places r sheet sheet) (sym (is.1 ∙ ap Err fault))
+          (none_settles dist cst (lawful g) d c.args.allowance places small wide some _ refl refl c.descend.new.search went none b h sheet);
+    }
 
 pub slice_bounds-copy_from_slice-end : goal.slice_bounds-copy_from_slice-end
 slice_bounds-copy_from_slice-end g c =
@@ -81,7 +88,7 @@ returns g c =
     let n = c.tones-tones.result in
     let after = c.copy_from_slice.ensures.after in
     let within : n ≤ 32 = omega (arith, few_tones d, held_length d (book_of d) (held_book d), count (book_of d) (held_book d)) in
-    let long : length (take n c.in-Some.best.sheet) ≡ n = ap length (sym after) ∙ (c.copy_from_slice.ensures.len ∙ length-take-le n sheet (search rules)) in
+    let long : length (take n c.in_ok-best.best.sheet) ≡ n = ap length (sym after) ∙ (c.copy_from_slice.ensures.len ∙ length-take-le n sheet (search rules)) in
     record {
-      settles = λ b h. best_settles dist cst (lawful g) d c.args.allowance places small wide some _ refl refl c.descend.new.search went c.in-Some.best c.in-Some.is b h sheet _ n (count b h) long (ap (λ xs. xs ++ drop n sheet) after);
+      settles = λ b h. best_settles dist cst (lawful g) d c.args.allowance places small wide some _ refl refl c.descend.new.search went c.in_ok-best.best c.in_ok-best.ensures.ok_part b h sheet _ n (count b h) long (ap (λ xs. xs ++ drop n sheet) after);
     }
