@@ -12,7 +12,8 @@ use Rattle.draft.specs.Reading.{candidates_in, bound_in}
 use Rattle.draft.proofs.Reading.{bound_there}
 use Rattle.draft.specs.declared.draft.Draft.{Draft}
 use Rattle.ratio.specs.declared.ratio.Ratio.{Ratio}
-use Rattle.settling.specs.Explore.{counted, beaten, numbered, row, explore, step}
+use Rattle.std.specs.List.{enumerate_from}
+use Rattle.settling.specs.Explore.{counted, beaten, row, explore, step}
 use Rattle.settling.specs.Posed.{rows, problem}
 use Rattle.settling.specs.Searching.{ratios, numbers, seen, found, searched, Went, Overspent}
 use Rattle.settling.specs.Settling.{Costing}
@@ -60,7 +61,7 @@ pub record Trying {V : Type 0} (dist : Ratio → Ratio → ℕ) (c : Costing V) 
   pub within : now.trials ≤ allowance
   pub unbeaten : (n : ℕ) → beaten c (seen n entry.best) v ≡ false
   pub finds : (b : Book) → Holds d b
-      → found (length b.tones) now ≡ fold (step (problem dist b) c (drop (k + 1) (rows b)) (ratios (take k entry.laid)) (numbers (take k entry.laid)) v) (found (length b.tones) entry) (take number (numbered 0 cs))
+      → found (length b.tones) now ≡ fold (step (problem dist b) c (drop (k + 1) (rows b)) (ratios (take k entry.laid)) (numbers (take k entry.laid)) v) (found (length b.tones) entry) (take number (enumerate_from 0 cs))
 
 shorter : {A : Type 0} (k : ℕ) (xs ys : List A) → take (k + 1) xs ≡ take (k + 1) ys → take k xs ≡ take k ys
 shorter k xs ys e = sym (take-take k (k + 1) xs (omega arith)) ∙ (ap (take k) e ∙ take-take k (k + 1) ys (omega arith))
@@ -104,9 +105,6 @@ module _ {V : Type 0} (dist : Ratio → Ratio → ℕ) (c : Costing V) (d : Draf
   -- ---- the candidates of the next tone, one after another
 
   module _ (cs : List Ratio) (read : (b : Book) → Holds d b → candidates_in b k ≡ Some cs) (entry : Search V) where
-    pub trying_start : ((n : ℕ) → beaten c (seen n entry.best) v ≡ false) → entry.trials ≤ allowance → Trying dist c d allowance k v cs 0 entry entry
-    trying_start unbeaten within = record { laid = refl; costs = refl; size = refl; within = within; unbeaten = unbeaten; finds = λ b h. refl }
-
     -- the search of the whole row, as the search below the start
     whole : (b : Book) → Holds d b → searched dist c b k v entry ≡ explore (problem dist b) c (cs ∷ drop (k + 1) (rows b)) (ratios (take k entry.laid)) (numbers (take k entry.laid)) v (found (length b.tones) entry)
     whole b h = ap (λ rest. explore (problem dist b) c rest (ratios (take k entry.laid)) (numbers (take k entry.laid)) v (found (length b.tones) entry)) (next_row b k cs (read b h))
@@ -201,15 +199,6 @@ module _ {V : Type 0} (dist : Ratio → Ratio → ℕ) (c : Costing V) (d : Draf
                   same ∙ (went.finds b h
                   ∙ (child b h ∙ stepped_some (problem dist b) c (drop (k + 1) (rows b)) (ratios (take k entry.laid)) (numbers (take k entry.laid)) v (found n entry) (found n s) cs number x w listed is (trying.finds b h) (laid_row b (Some w) (kept b h))));
             }
-
--- ---- the numbers written out
-
--- each element is that of the first list, mapped
-pub mapped : {X Y : Type 0} (f : X → Y) (xs : List X) (ys : List Y) (d : X) (e : Y) → length ys ≡ length xs → ((i : ℕ) → i < length xs → get_or ys i e ≡ f (get_or xs i d)) → ys ≡ map f xs
-mapped f [] [] d e long at = refl
-mapped f [] (y ∷ ys) d e long at = absurd (omega arith)
-mapped f (x ∷ xs) [] d e long at = absurd (omega arith)
-mapped f (x ∷ xs) (y ∷ ys) d e long at = cc (at 0 (omega arith), mapped f xs ys d e (omega arith) (λ i h. at (suc i) (omega arith)))
 
 -- ---- a cost by another name
 

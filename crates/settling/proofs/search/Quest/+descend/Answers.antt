@@ -7,11 +7,12 @@ use Rattle.draft.specs.Book.{Book}
 use Rattle.draft.specs.Held.{Holds, book_of}
 use Rattle.draft.proofs.Holding.{held_book}
 use Rattle.ratio.specs.Parts.{unison}
+use Rattle.ratio.proofs.Multiplicities.{mapped}
 use Rattle.settling.specs.Explore.{beaten}
 use Rattle.settling.specs.Posed.{problem, meant}
 use Rattle.settling.specs.Searching.{ratios, seen}
 use Rattle.settling.specs.declared.search.Laid.{Laid}
-use Rattle.settling.proofs.Descent.{there, beaten_some, beaten_none, went_beaten, went_end, trying_start, trying_all, spent_now, trying_broken, spent_child, trying_on, bound_read, bound_some, mapped, on_top, room_left, went_of, overspent_of}
+use Rattle.settling.proofs.Descent.{there, beaten_some, beaten_none, went_beaten, went_end, trying_all, spent_now, trying_broken, spent_child, trying_on, bound_read, bound_some, on_top, room_left, went_of, overspent_of}
 use Rattle.settling.proofs.Rows.{paired_over, paired_within, row_some, row_none, row_end}
 use Rattle.settling.proofs.search.Quest.+descend.Goals as goal
 use Rattle.settling.proofs.search.Quest.+descend.Goals.{in-Some+else-no_more, in_default}
