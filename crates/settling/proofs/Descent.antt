@@ -264,7 +264,7 @@ cost_on {now = now} trying height small wide r w {after} put =
     room_left r (room now.costs) w now.costs.values after put (omega (arith, trying.size, ap length trying.costs))
 
 -- the first value on an empty stack
-pub first_on : {U E V : Type 0} (r : Result U E) (n : ℕ) (v nil : V) (before after : List V) → PutOn r n v before after → before ≡ [] → v ≡ nil → 0 < n → IsOk r × (after ≡ nil ∷ [])
-first_on r n v nil before after put empty is less =
+pub first_on : {U E V : Type 0} (r : Result U E) {n : ℕ} {v nil : V} {before after : List V} → PutOn r n v before after → before ≡ [] → v ≡ nil → 0 < n → after ≡ nil ∷ []
+first_on r {n} {v} {nil} {before} {after} put empty is less =
     let on = room_left r n v before after put (omega (arith, ap length empty)) in
-    (on.0, on.1 ∙ (ap (λ xs. xs ++ (v ∷ [])) empty ∙ ap (λ w. w ∷ []) is))
+    on.1 ∙ (ap (λ xs. xs ++ (v ∷ [])) empty ∙ ap (λ w. w ∷ []) is)
