@@ -46,6 +46,17 @@ graefs_run distance both bounded ss =
     let h = sound_run ss in
     in_graefs_words (problem distance b) unison (record { distances = both; bounds = h.both_ways }) bounded (omega (arith, h.few_tones, length-map b.tones (λ (n : Noted). n.candidates)))
 
+-- as many are taken as there are steps, and places for their entries
+module _ {S E : Type 0} (steps : List S) (before : List E) {count : ℕ} (least : count ≡ min (length steps) (length before)) where
+  pub all_taken : length (take count steps) ≡ count
+  all_taken = length-take-le count steps (omega arith)
+
+  pub step_there : count ≤ length steps
+  step_there = omega arith
+
+  pub place_there : {number : ℕ} → number < length (take count steps) → number < length before
+  place_there inside = omega (arith, all_taken)
+
 module _ {V : Type 0} (distance : Ratio → Ratio → ℕ) (c : Costing V) (places : ℕ) where
   run_more : (b : Book) (ss : List Step) (es : List (Entry V)) (s : Step) (e : Entry V) (before last : List ℕ) → Run distance c places b ss es before last
       → Answered distance c places (after b ss) s e.answer last e.sheet → Run distance c places b (ss ++ (s ∷ [])) (es ++ (e ∷ [])) before e.sheet
@@ -68,11 +79,11 @@ module _ {V : Type 0} (distance : Ratio → Ratio → ℕ) (c : Costing V) (plac
     pub stayed : drop number written ≡ drop number before
     pub holds : Holds d (after new_book (take number steps))
 
-  pub begun_more : (steps : List Step) (before written : List (Entry V)) (sheet last last' : List ℕ) (number : ℕ) (d d' : Draft) (s : Step) (a : Answer V) (room count : ℕ) → room ≡ places
+  pub begun_more : {steps : List Step} {before written : List (Entry V)} {sheet last last' : List ℕ} {number : ℕ} {d d' : Draft} (s : Step) (a : Answer V) {room count : ℕ} → room ≡ places
       → count ≤ length steps → number < length (take count steps) → number < length written → Begun steps before sheet number written last d
       → Stepped distance c room (get_or (take count steps) number s) d d' a last last'
       → Begun steps before sheet (number + 1) (set written number (record { answer = a; sheet = last' })) last' d'
-  begun_more steps before written sheet last last' number d d' s a room count same few h i g by =
+  begun_more {steps} {before} {written} {sheet} {last} {last'} {number} {d} {d'} s a {room} {count} same few h i g by =
       let here : Step = get_or steps number s in
       let under : number < count = omega (arith, length-take-le count steps few) in
       let at = get_or-take count steps number s under in
@@ -87,8 +98,8 @@ module _ {V : Type 0} (distance : Ratio → Ratio → ℕ) (c : Costing V) (plac
         holds = subst (Holds d') (sym (after_more new_book (take number steps) here) ∙ ap (after new_book) (sym more)) told.1;
       }
 
-  pub begun_all : (steps : List Step) (before written : List (Entry V)) (sheet last : List ℕ) (number : ℕ) (d : Draft) → number ≡ min (length steps) (length before)
+  pub begun_all : {steps : List Step} {before written : List (Entry V)} {sheet last : List ℕ} {number : ℕ} {d : Draft} → number ≡ min (length steps) (length before)
       → Begun steps before sheet number written last d → Replayed distance c places steps before written sheet last d
-  begun_all steps before written sheet last number d e g =
+  begun_all {steps} {before} {written} {sheet} {last} {number} {d} e g =
       let g' = subst (λ n. Begun steps before sheet n written last d) e g in
       record { run = g'.run; stayed = g'.stayed; holds = g'.holds }
