@@ -5,12 +5,13 @@ use Rattle.std.proofs.lemmas.List.{append-nil, append_assoc, length-append, leng
 use Rattle.std.proofs.lemmas.List.FromFn.{get_or-map-range_with_len, length-map-range_with_len}
 use Rattle.std.proofs.lemmas.List.Sums.{sum_by-cons, sum_by_push}
 use Rattle.std.proofs.lemmas.Bool.{cases_Bool, cases_eq, both_ways, cond-true, cond-false}
+use Rattle.std.specs.List.{enumerate_from}
 use Rattle.settling.specs.Settling.{Costing, Lawful, Problem, Choice, choices, below, laid, apart, keeps, cost, live, trials_at, trials, Best}
 use Rattle.settling.proofs.Listed.{all_below, below_more, choice_push, sum_by_both, sum_choices_push}
 use Rattle.std.proofs.lemmas.List.Folds.{fold-map}
 use Rattle.settling.proofs.Kept.{folded_same, laid_front, keeps_front, keeps_push, keeps_last, cost_push}
 use Rattle.settling.proofs.Live.{live_keeps, dead_under}
-use Rattle.settling.specs.Explore.{Found, counted, next, beaten, numbered, row, explore, step}
+use Rattle.settling.specs.Explore.{Found, counted, next, beaten, row, explore, step}
 use Rattle.settling.proofs.Explore.{explore_beaten, explore_end, explore_tone}
 use Rattle.settling.proofs.Rows.{row_rowed, row_broken}
 use Rattle.settling.proofs.Covered.{Passed, Under, Through, Upto, Right, right_same, passed_upto, upto_passed, through_upto, upto_through, under_push, beaten_dead, unbeaten_live, beaten_through, leaf_through}
@@ -180,7 +181,7 @@ module _ {R : Type 0} (p : Problem R) (none : R) {V : Type 0} (c : Costing V) wh
 
       -- the candidates from the number n on
       tried : (ds : List R) (n : ℕ) → n + length ds ≡ length cs → ((i : ℕ) → i < length ds → get_or ds i none ≡ get_or cs (n + i) none) → (g : Found V) → Right p none c (Upto s n) g.best
-          → After (Upto s (length cs)) (length ds + sum_by (λ q. under rest (s ++ (q ∷ []))) (range_with_len n (length ds))) g (fold (step p c rest xs s v) g (numbered n ds))
+          → After (Upto s (length cs)) (length ds + sum_by (λ q. under rest (s ++ (q ∷ []))) (range_with_len n (length ds))) g (fold (step p c rest xs s v) g (enumerate_from n ds))
       tried [] n e same g r =
           let all_of : n ≡ length cs = omega arith in
           (subst (λ m. Right p none c (Upto s m) g.best) all_of r, omega arith)
@@ -209,7 +210,7 @@ module _ {R : Type 0} (p : Problem R) (none : R) {V : Type 0} (c : Costing V) wh
         (right_same p none c (Passed s) (Upto s 0) (λ t ch k u. inl u) (λ t ch k u. ⊎_elim (λ a. a) (λ b. absurd (let l = b.1 in omega arith)) u) f.best r) in (
           right_same p none c (Upto s (length cs)) (Through s) (λ t ch k u. ⊎_elim (λ a. inl a) (λ b. inr b.0) u)
               (λ t ch k u. ⊎_elim (λ a. inl a) (λ b. inr (b, subst (λ d. get_or t (length s) 0 < length d) (row_here front rest cs s xs v node) (ch.listed (length s) (omega (arith, ch.full, room front rest cs s xs v node))))) u)
-              (fold (step p c rest xs s v) f (numbered 0 cs)).best tries.0,
+              (fold (step p c rest xs s v) f (enumerate_from 0 cs)).best tries.0,
           omega (arith, tries.1, cond-true (live p none c s) (length cs) 0 (unbeaten_live p none c law s v node.sum f.best r node.kept e)),
         )))
         (cases_Bool (beaten c f.best v))

@@ -1,27 +1,19 @@
 -- What holds of each of a list, of each number below another, of each pair of tones, and of each choice.
-use Rattle.std.proofs.Common.{◌≡◌, ℕ, zero, suc, ◌+◌, ◌<◌, Bool, true, false, List, [], ◌∷◌, ◌++◌, map, length, get_or, sum_by, sym, refl, ap, ◌∙◌, subst, ⊎_elim, arith}
-use Rattle.std.specs.List.{ContainsAt, flat_map, AllByRecursion}
-use Rattle.std.proofs.lemmas.List.{append-nil, map-id}
-use Rattle.std.proofs.ByRecursion.{All-get_or, All-from_get_or, All-append, All-map, all-has, all_has_itself, All-weaker}
-use Rattle.std.proofs.lemmas.Grind.{flat_map-append}
+use Rattle.std.proofs.Common.{◌≡◌, ℕ, zero, suc, ◌+◌, ◌<◌, Bool, true, List, [], ◌∷◌, ◌++◌, map, length, get_or, sum_by, sym, refl, ap, ◌∙◌, subst, arith}
+use Rattle.std.specs.List.{flat_map, AllByRecursion}
+use Rattle.std.proofs.lemmas.List.{map-id, flat_map_more}
+use Rattle.std.proofs.ByRecursion.{All-get_or, All-from_get_or, All-append, All-map, All-weaker}
 use Rattle.std.proofs.lemmas.List.FromFn.{length-range_with_len, get_or-range_with_len, map-range_with_len_more}
-use Rattle.std.proofs.lemmas.List.Sums.{sum_by-cons, sum_by-append}
-use Rattle.std.proofs.lemmas.Bool.{and_parts, and_from, and_cases, both_ways}
+use Rattle.std.proofs.lemmas.List.Elements.{All-from_recursion, recursion_from_All}
+use Rattle.std.proofs.lemmas.List.Sums.{AllPass-from_list_all, list_all-from_AllPass, sum_by-cons, sum_by-append}
 use Rattle.settling.specs.Settling.{all, below, pairs, Choice, choices}
 
 module _ {A : Type 0} (t : A → Bool) where
   pub all_true : (xs : List A) → all t xs ≡ true → AllByRecursion (λ x. t x ≡ true) xs
-  all_true [] e = tt
-  all_true (x ∷ xs) e = let both = and_parts (t x) (all t xs) e in (both.0, all_true xs both.1)
+  all_true xs e = recursion_from_All (λ x. t x ≡ true) xs (AllPass-from_list_all t xs e)
 
   pub true_all : (xs : List A) → AllByRecursion (λ x. t x ≡ true) xs → all t xs ≡ true
-  true_all [] h = refl
-  true_all (x ∷ xs) h = and_from (t x) (all t xs) h.0 (true_all xs h.1)
-
-  -- where a test fails of a list, it fails of one of its elements
-  pub one_fails : (P : A → Type 0) (xs : List A) → AllByRecursion P xs → all t xs ≡ false → (x : A) × P x × (t x ≡ false)
-  one_fails P [] h e = absurd (both_ways true e refl)
-  one_fails P (x ∷ xs) h e = ⊎_elim (λ f. (x, h.0, f)) (λ f. one_fails P xs h.1 f) (and_cases (t x) (all t xs) e)
+  true_all xs h = list_all-from_AllPass t xs (All-from_recursion (λ x. t x ≡ true) xs h)
 
 module _ {A : Type 0} (P : A → Type 0) where
   append_all : (xs ys : List A) → AllByRecursion P (xs ++ ys) → AllByRecursion P xs × AllByRecursion P ys
@@ -74,7 +66,7 @@ module _ (P : ℕ × ℕ → Type 0) (n : ℕ) where
       i k
 
 pub gathered_push : {A B : Type 0} (f : B → List A) (ys : List B) (y : B) → flat_map f (ys ++ (y ∷ [])) ≡ flat_map f ys ++ f y
-gathered_push f ys y = flat_map-append f ys (y ∷ []) ∙ ap (λ l. flat_map f ys ++ l) (append-nil (f y))
+gathered_push f ys y = sym (flat_map_more f [] ys y)
 
 pub pairs_more : (n : ℕ) → pairs (n + 1) ≡ pairs n ++ map (λ i. (i, n)) (below n)
 pairs_more n =
@@ -112,13 +104,6 @@ module _ {R : Type 0} where
       (map_all P (λ s. n ∷ s) (choices tones)
       (below_all (λ n. AllByRecursion P (map (λ s. n ∷ s) (choices tones))) (length cs) (gathered_all P (λ n. map (λ s. n ∷ s) (choices tones)) (below (length cs)) h) n (ch.listed 0 (omega arith))))
       s (choice_rest n s cs tones ch)
-
-  -- the choices are exactly what is listed
-  pub has_choice : (tones : List (List R)) (s : List ℕ) → Choice tones s → ContainsAt (choices tones) s
-  has_choice tones s ch = every_choice tones (ContainsAt (choices tones)) (all_has_itself (choices tones)) s ch
-
-  pub choice_from_has : (tones : List (List R)) (s : List ℕ) → ContainsAt (choices tones) s → Choice tones s
-  choice_from_has tones s h = all-has (Choice tones) (choices tones) s (all_choice tones) h
 
   -- a choice, and a number for one tone more
   pub choice_push : (tones : List (List R)) (cs : List R) (s : List ℕ) (q : ℕ) → Choice tones s → q < length cs → Choice (tones ++ (cs ∷ [])) (s ++ (q ∷ []))

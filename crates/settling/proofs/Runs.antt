@@ -1,6 +1,6 @@
 -- A run of steps, one more at a time. Assumes nothing.
 use Rattle.std.proofs.Common.{◌≡◌, ℕ, ◌+◌, ◌<◌, ◌≤◌, min, List, [], ◌∷◌, ◌++◌, length, get_or, take, drop, set, Result, sym, refl, ap, ◌∙◌, subst, arith}
-use Rattle.std.proofs.lemmas.List.{take_more, take_more_set, drop-set-lt, drop-drop, length-map}
+use Rattle.std.proofs.lemmas.List.{take_more, take_more_set, length-take-le, get_or-take, drop-set-lt, drop-drop, length-map}
 use Rattle.draft.specs.Book.{Noted, Book, new_book, Sound}
 use Rattle.draft.proofs.Sound.{sound_new, sound_after}
 use Rattle.ratio.specs.Parts.{unison}
@@ -46,6 +46,17 @@ graefs_run distance both bounded ss =
     let h = sound_run ss in
     in_graefs_words (problem distance b) unison (record { distances = both; bounds = h.both_ways }) bounded (omega (arith, h.few_tones, length-map b.tones (λ (n : Noted). n.candidates)))
 
+-- as many are taken as there are steps, and places for their entries
+module _ {S E : Type 0} (steps : List S) (before : List E) {count : ℕ} (least : count ≡ min (length steps) (length before)) where
+  pub all_taken : length (take count steps) ≡ count
+  all_taken = length-take-le count steps (omega arith)
+
+  pub step_there : count ≤ length steps
+  step_there = omega arith
+
+  pub place_there : {number : ℕ} → number < length (take count steps) → number < length before
+  place_there inside = omega (arith, all_taken)
+
 module _ {V : Type 0} (distance : Ratio → Ratio → ℕ) (c : Costing V) (places : ℕ) where
   run_more : (b : Book) (ss : List Step) (es : List (Entry V)) (s : Step) (e : Entry V) (before last : List ℕ) → Run distance c places b ss es before last
       → Answered distance c places (after b ss) s e.answer last e.sheet → Run distance c places b (ss ++ (s ∷ [])) (es ++ (e ∷ [])) before e.sheet
@@ -68,16 +79,18 @@ module _ {V : Type 0} (distance : Ratio → Ratio → ℕ) (c : Costing V) (plac
     pub stayed : drop number written ≡ drop number before
     pub holds : Holds d (after new_book (take number steps))
 
-  pub begun_more : (steps : List Step) (before written : List (Entry V)) (sheet last last' : List ℕ) (number : ℕ) (d d' : Draft) (s : Step) (a : Answer V) (room : ℕ) → room ≡ places
-      → number < length steps → number < length written → Begun steps before sheet number written last d
-      → Stepped distance c room (get_or steps number s) d d' a last last'
+  pub begun_more : {steps : List Step} {before written : List (Entry V)} {sheet last last' : List ℕ} {number : ℕ} {d d' : Draft} (s : Step) (a : Answer V) {room count : ℕ} → room ≡ places
+      → count ≤ length steps → number < length (take count steps) → number < length written → Begun steps before sheet number written last d
+      → Stepped distance c room (get_or (take count steps) number s) d d' a last last'
       → Begun steps before sheet (number + 1) (set written number (record { answer = a; sheet = last' })) last' d'
-  begun_more steps before written sheet last last' number d d' s a room same h i g by =
+  begun_more {steps} {before} {written} {sheet} {last} {last'} {number} {d} {d'} s a {room} {count} same few h i g by =
       let here : Step = get_or steps number s in
+      let under : number < count = omega (arith, length-take-le count steps few) in
+      let at = get_or-take count steps number s under in
       let e : Entry V = record { answer = a; sheet = last' } in
-      let more = take_more steps number s h in
+      let more = take_more steps number s (omega arith) in
       let front = take_more_set written number e i in
-      let told = subst (λ n. Stepped distance c n here d d' a last last') same by (after new_book (take number steps)) g.holds in
+      let told = subst (λ n. Stepped distance c n here d d' a last last') same (subst (λ x. Stepped distance c room x d d' a last last') at by) (after new_book (take number steps)) g.holds in
       let run = run_more new_book (take number steps) (take number written) here e sheet last g.run told.0 in
       record {
         run = subst (λ es. Run distance c places new_book (take (number + 1) steps) es sheet last') (sym front) (subst (λ ss. Run distance c places new_book ss (take number written ++ (e ∷ [])) sheet last') (sym more) run);
@@ -85,8 +98,8 @@ module _ {V : Type 0} (distance : Ratio → Ratio → ℕ) (c : Costing V) (plac
         holds = subst (Holds d') (sym (after_more new_book (take number steps) here) ∙ ap (after new_book) (sym more)) told.1;
       }
 
-  pub begun_all : (steps : List Step) (before written : List (Entry V)) (sheet last : List ℕ) (number : ℕ) (d : Draft) → number ≡ min (length steps) (length before)
+  pub begun_all : {steps : List Step} {before written : List (Entry V)} {sheet last : List ℕ} {number : ℕ} {d : Draft} → number ≡ min (length steps) (length before)
       → Begun steps before sheet number written last d → Replayed distance c places steps before written sheet last d
-  begun_all steps before written sheet last number d e g =
+  begun_all {steps} {before} {written} {sheet} {last} {number} {d} e g =
       let g' = subst (λ n. Begun steps before sheet n written last d) e g in
       record { run = g'.run; stayed = g'.stayed; holds = g'.holds }

@@ -1,9 +1,10 @@
 -- From what the search has found to what a settling promises. Assumes nothing.
-use Rattle.std.proofs.Common.{◌≡◌, ℕ, ◌<◌, ◌≤◌, List, [], ◌++◌, length, take, drop, Some, None, Ok, Err, Result, sym, refl, ap, ◌∙◌, subst, arith}
+use Rattle.std.proofs.Common.{◌≡◌, ℕ, ◌<◌, ◌≤◌, List, [], ◌++◌, length, take, drop, Some, None, Ok, Err, Result, Option, sym, refl, ap, ◌∙◌, subst, arith}
+use Rattle.std.specs.Option.{ok_or}
 use Rattle.std.proofs.lemmas.Bool.Decides.{nat_tests}
 use Rattle.draft.specs.Book.{Book}
-use Rattle.draft.proofs.Holding.{held_length}
-use Rattle.draft.specs.Held.{entered_tones, Holds}
+use Rattle.draft.proofs.Holding.{held_length, held_book}
+use Rattle.draft.specs.Held.{entered_tones, Holds, book_of}
 use Rattle.draft.specs.declared.draft.Draft.{Draft}
 use Rattle.ratio.specs.Parts.{unison}
 use Rattle.ratio.specs.declared.ratio.Ratio.{Ratio}
@@ -17,10 +18,24 @@ use Rattle.settling.specs.declared.fault.SearchFault.TheVariants.{Spent, NoScale
 use Rattle.settling.specs.declared.search.Best.{Best}
 use Rattle.settling.specs.declared.search.Search.{Search}
 use Rattle.settling.specs.declared.settle.Settled.{Settled}
+use Rattle.settling.proofs.Descent.{few_tones}
 use Rattle.settling.proofs.Explored.{nothing, Settles, explored}
 
 well_put : (b : Book) (places allowance : ℕ) → allowance ≤ 1000000000 → 33 ≤ places → 0 < length b.tones → ill_put b places allowance ≡ None
 well_put b places allowance small wide some = grind (arith, nat_tests)
+
+-- ---- the number of tones
+
+module _ {d : Draft} {n : ℕ} (count : (b : Book) → Holds d b → n ≡ length b.tones) where
+  pub few_entered : n ≤ 32
+  few_entered = omega (arith, few_tones d, held_length d (book_of d) (held_book d), count (book_of d) (held_book d))
+
+  pub some_tones : (n ≡ 0 → ⊥) → 0 < length (entered_tones d)
+  some_tones some = omega (arith, some, held_length d (book_of d) (held_book d), count (book_of d) (held_book d))
+
+-- the fault of a missing value
+pub refused : {T E : Type 0} (o : Option T) (x e : E) → o ≡ None → Err x ≡ ok_or o e → x ≡ e
+refused o x e none is = cc
 
 module _ {V : Type 0} (dist : Ratio → Ratio → ℕ) (c : Costing V) (law : Lawful c) (d : Draft) (allowance places : ℕ) (small : allowance ≤ 1000000000) (wide : 33 ≤ places) (some : 0 < length (entered_tones d))
     (start : Search V) (none : start.best ≡ None) (begins : start.trials ≡ 0) where

@@ -1,24 +1,14 @@
 -- The search, turn by turn, and its count of trials, which never falls.
-use Rattle.std.proofs.Common.{◌≡◌, ℕ, zero, suc, ◌+◌, ◌<◌, ◌≤◌, false, List, [], ◌∷◌, ◌++◌, length, get_or, take, drop, Some, None, fold, Option, sym, refl, ap, ◌∙◌, subst, ⊎_elim, arith}
+use Rattle.std.proofs.Common.{◌≡◌, ℕ, ◌+◌, ◌<◌, ◌≤◌, false, List, [], ◌∷◌, ◌++◌, length, get_or, take, drop, Some, None, fold, Option, sym, ap, ◌∙◌, subst, ⊎_elim, arith}
 use Rattle.std.proofs.lemmas.List.{take-append-drop, take_all}
 use Rattle.std.proofs.lemmas.List.Sums.{fold_more}
 use Rattle.std.proofs.lemmas.Bool.{cases_Bool}
+use Rattle.std.specs.List.{enumerate_from}
+use Rattle.std.proofs.lemmas.List.FromFn.{length-enumerate_from, get_or-enumerate_from}
 use Rattle.settling.specs.Settling.{Costing, Problem}
 use Rattle.std.proofs.lemmas.List.Sums.{fold-append}
-use Rattle.settling.specs.Explore.{Found, counted, next, beaten, numbered, row, explore, step}
+use Rattle.settling.specs.Explore.{Found, counted, next, beaten, row, explore, step}
 use Rattle.settling.proofs.Explore.{explore_beaten, explore_end, explore_tone}
-
-pub length_numbered : {R : Type 0} (n : ℕ) (xs : List R) → length (numbered n xs) ≡ length xs
-length_numbered n [] = refl
-length_numbered n (x ∷ xs) = ap suc (length_numbered (n + 1) xs)
-
-pub get_or_numbered : {R : Type 0} (n k : ℕ) (xs : List R) (d : ℕ × R) → k < length xs → get_or (numbered n xs) k d ≡ (n + k, get_or xs k d.1)
-get_or_numbered n k [] d h = absurd (omega arith)
-get_or_numbered n zero (x ∷ xs) d h = let e : n ≡ n + 0 = omega arith in ap (λ m. (m, x)) e
-get_or_numbered n (suc k) (x ∷ xs) d h =
-    let h' : k < length xs = omega arith in
-    let e : (n + 1) + k ≡ n + suc k = omega arith in
-    get_or_numbered (n + 1) k xs d h' ∙ ap (λ m. (m, get_or xs k d.1)) e
 
 module _ {R V : Type 0} (p : Problem R) (c : Costing V) where
   -- ---- one trial
@@ -31,27 +21,27 @@ module _ {R V : Type 0} (p : Problem R) (c : Costing V) where
     step_none g n x e = ap (λ o. next o (counted g) (λ w. explore p c rest (laid ++ (x ∷ [])) (s ++ (n ∷ [])) w (counted g))) e
 
     -- the fold over the first n candidates, with the one at n
-    pub stepped : (f g : Found V) (cs : List R) (n : ℕ) (x : R) → n < length cs → x ≡ get_or cs n x → g ≡ fold (step p c rest laid s v) f (take n (numbered 0 cs))
-        → step p c rest laid s v g (n, x) ≡ fold (step p c rest laid s v) f (take (n + 1) (numbered 0 cs))
+    pub stepped : (f g : Found V) (cs : List R) (n : ℕ) (x : R) → n < length cs → x ≡ get_or cs n x → g ≡ fold (step p c rest laid s v) f (take n (enumerate_from 0 cs))
+        → step p c rest laid s v g (n, x) ≡ fold (step p c rest laid s v) f (take (n + 1) (enumerate_from 0 cs))
     stepped f g cs n x h is inv =
         let S = step p c rest laid s v in
-        let h' : n < length (numbered 0 cs) = omega (arith, length_numbered 0 cs) in
+        let h' : n < length (enumerate_from 0 cs) = omega (arith, length-enumerate_from 0 cs) in
         let zero_n : 0 + n ≡ n = omega arith in
-        let at_n : get_or (numbered 0 cs) n (n, x) ≡ (n, x) = get_or_numbered 0 n cs (n, x) h ∙ (λ i. (zero_n i, sym is i)) in
-        ap (λ y. S y (n, x)) inv ∙ ap (S (fold S f (take n (numbered 0 cs)))) (sym at_n) ∙ sym (fold_more S f (numbered 0 cs) n (n, x) h')
+        let at_n : get_or (enumerate_from 0 cs) n (n, x) ≡ (n, x) = get_or-enumerate_from 0 cs n (n, x) h ∙ (λ i. (zero_n i, sym is i)) in
+        ap (λ y. S y (n, x)) inv ∙ ap (S (fold S f (take n (enumerate_from 0 cs)))) (sym at_n) ∙ sym (fold_more S f (enumerate_from 0 cs) n (n, x) h')
 
-    pub stepped_some : (f g : Found V) (cs : List R) (n : ℕ) (x : R) (w : V) → n < length cs → x ≡ get_or cs n x → g ≡ fold (step p c rest laid s v) f (take n (numbered 0 cs)) → row p c (length laid) x 0 laid v ≡ Some w
-        → explore p c rest (laid ++ (x ∷ [])) (s ++ (n ∷ [])) w (counted g) ≡ fold (step p c rest laid s v) f (take (n + 1) (numbered 0 cs))
+    pub stepped_some : (f g : Found V) (cs : List R) (n : ℕ) (x : R) (w : V) → n < length cs → x ≡ get_or cs n x → g ≡ fold (step p c rest laid s v) f (take n (enumerate_from 0 cs)) → row p c (length laid) x 0 laid v ≡ Some w
+        → explore p c rest (laid ++ (x ∷ [])) (s ++ (n ∷ [])) w (counted g) ≡ fold (step p c rest laid s v) f (take (n + 1) (enumerate_from 0 cs))
     stepped_some f g cs n x w h is inv e = sym (step_some g n x w e) ∙ stepped f g cs n x h is inv
 
-    pub stepped_none : (f g : Found V) (cs : List R) (n : ℕ) (x : R) → n < length cs → x ≡ get_or cs n x → g ≡ fold (step p c rest laid s v) f (take n (numbered 0 cs)) → row p c (length laid) x 0 laid v ≡ None
-        → counted g ≡ fold (step p c rest laid s v) f (take (n + 1) (numbered 0 cs))
+    pub stepped_none : (f g : Found V) (cs : List R) (n : ℕ) (x : R) → n < length cs → x ≡ get_or cs n x → g ≡ fold (step p c rest laid s v) f (take n (enumerate_from 0 cs)) → row p c (length laid) x 0 laid v ≡ None
+        → counted g ≡ fold (step p c rest laid s v) f (take (n + 1) (enumerate_from 0 cs))
     stepped_none f g cs n x h is inv e = sym (step_none g n x e) ∙ stepped f g cs n x h is inv
 
     -- the fold over all candidates is the search
-    pub stepped_all : (f : Found V) (cs : List R) (n : ℕ) → length cs ≤ n → beaten c f.best v ≡ false → fold (step p c rest laid s v) f (take n (numbered 0 cs)) ≡ explore p c (cs ∷ rest) laid s v f
+    pub stepped_all : (f : Found V) (cs : List R) (n : ℕ) → length cs ≤ n → beaten c f.best v ≡ false → fold (step p c rest laid s v) f (take n (enumerate_from 0 cs)) ≡ explore p c (cs ∷ rest) laid s v f
     stepped_all f cs n h e =
-        ap (fold (step p c rest laid s v) f) (take_all n (numbered 0 cs) (omega (arith, length_numbered 0 cs))) ∙ sym (explore_tone p c cs rest laid s v f e)
+        ap (fold (step p c rest laid s v) f) (take_all n (enumerate_from 0 cs) (omega (arith, length-enumerate_from 0 cs))) ∙ sym (explore_tone p c cs rest laid s v f e)
 
   -- ---- trials only grow
 
@@ -73,7 +63,7 @@ module _ {R V : Type 0} (p : Problem R) (c : Costing V) where
       (λ e. subst (λ n. f.trials ≤ n) (sym (ap (λ g. g.trials) (explore_tone p c cs rest laid s v f e)))
       (folded_more_trials (step p c rest laid s v)
       (λ g x. let more = step_more_by rest (laid ++ (x.1 ∷ [])) (s ++ (x.0 ∷ [])) g (λ w. explore_trials rest (laid ++ (x.1 ∷ [])) (s ++ (x.0 ∷ [])) w (counted g)) (row p c (length laid) x.1 0 laid v) in omega arith)
-      f (numbered 0 cs)))
+      f (enumerate_from 0 cs)))
       (cases_Bool (beaten c f.best v))
 
   module _ (rest : List (List R)) (laid : List R) (s : List ℕ) (v : V) where
@@ -93,22 +83,22 @@ module _ {R V : Type 0} (p : Problem R) (c : Costing V) where
         (subst (λ g. (fold S f (take n xs)).trials ≤ g.trials) (sym (fold-append S f (take n xs) (drop n xs))) (folded_trials (fold S f (take n xs)) (drop n xs)))
 
     -- where the first n candidates have spent the allowance and one is left, the whole search spends more
-    pub spent_here : (f g : Found V) (cs : List R) (n a : ℕ) (x : R) → n < length cs → x ≡ get_or cs n x → g ≡ fold (step p c rest laid s v) f (take n (numbered 0 cs)) → beaten c f.best v ≡ false → a ≤ g.trials
+    pub spent_here : (f g : Found V) (cs : List R) (n a : ℕ) (x : R) → n < length cs → x ≡ get_or cs n x → g ≡ fold (step p c rest laid s v) f (take n (enumerate_from 0 cs)) → beaten c f.best v ≡ false → a ≤ g.trials
         → a < (explore p c (cs ∷ rest) laid s v f).trials
     spent_here f g cs n a x h is inv e over =
         let S = step p c rest laid s v in
         let one = step_trials g (n, x) in
-        let same : (S g (n, x)).trials ≡ (fold S f (take (n + 1) (numbered 0 cs))).trials = ap (λ g. g.trials) (stepped rest laid s v f g cs n x h is inv) in
-        let more = front_trials f (n + 1) (numbered 0 cs) in
-        let all_of : (explore p c (cs ∷ rest) laid s v f).trials ≡ (fold S f (numbered 0 cs)).trials = ap (λ g. g.trials) (explore_tone p c cs rest laid s v f e) in
+        let same : (S g (n, x)).trials ≡ (fold S f (take (n + 1) (enumerate_from 0 cs))).trials = ap (λ g. g.trials) (stepped rest laid s v f g cs n x h is inv) in
+        let more = front_trials f (n + 1) (enumerate_from 0 cs) in
+        let all_of : (explore p c (cs ∷ rest) laid s v f).trials ≡ (fold S f (enumerate_from 0 cs)).trials = ap (λ g. g.trials) (explore_tone p c cs rest laid s v f e) in
         omega arith
 
     -- where the search below one candidate spends more than the allowance, so does the whole
-    pub spent_below : (f g : Found V) (cs : List R) (n a : ℕ) (x : R) (w : V) → n < length cs → x ≡ get_or cs n x → g ≡ fold (step p c rest laid s v) f (take n (numbered 0 cs)) → beaten c f.best v ≡ false → row p c (length laid) x 0 laid v ≡ Some w
+    pub spent_below : (f g : Found V) (cs : List R) (n a : ℕ) (x : R) (w : V) → n < length cs → x ≡ get_or cs n x → g ≡ fold (step p c rest laid s v) f (take n (enumerate_from 0 cs)) → beaten c f.best v ≡ false → row p c (length laid) x 0 laid v ≡ Some w
         → a < (explore p c rest (laid ++ (x ∷ [])) (s ++ (n ∷ [])) w (counted g)).trials → a < (explore p c (cs ∷ rest) laid s v f).trials
     spent_below f g cs n a x w h is inv e joins over =
         let S = step p c rest laid s v in
-        let same : (explore p c rest (laid ++ (x ∷ [])) (s ++ (n ∷ [])) w (counted g)).trials ≡ (fold S f (take (n + 1) (numbered 0 cs))).trials = ap (λ g. g.trials) (stepped_some rest laid s v f g cs n x w h is inv joins) in
-        let more = front_trials f (n + 1) (numbered 0 cs) in
-        let all_of : (explore p c (cs ∷ rest) laid s v f).trials ≡ (fold S f (numbered 0 cs)).trials = ap (λ g. g.trials) (explore_tone p c cs rest laid s v f e) in
+        let same : (explore p c rest (laid ++ (x ∷ [])) (s ++ (n ∷ [])) w (counted g)).trials ≡ (fold S f (take (n + 1) (enumerate_from 0 cs))).trials = ap (λ g. g.trials) (stepped_some rest laid s v f g cs n x w h is inv joins) in
+        let more = front_trials f (n + 1) (enumerate_from 0 cs) in
+        let all_of : (explore p c (cs ∷ rest) laid s v f).trials ≡ (fold S f (enumerate_from 0 cs)).trials = ap (λ g. g.trials) (explore_tone p c cs rest laid s v f e) in
         omega arith

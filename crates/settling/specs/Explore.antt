@@ -1,5 +1,6 @@
 -- The search as a function: from a start, through all that extends it, in list order. Only private functions cite this.
 use Rattle.std.specs.Prelude.{ℕ, ◌+◌, Bool, false, cond, List, [], ◌∷◌, ◌++◌, length, Some, None, fold, Option, nat_le}
+use Rattle.std.specs.List.{enumerate_from}
 use Rattle.settling.specs.Settling.{Costing, Problem}
 
 -- What a search has found: the best cost with its numbers, and how many trials there were.
@@ -21,11 +22,6 @@ abbrev pub beaten : {V : Type 0} → Costing V → Option (V × List ℕ) → V 
 beaten c None v = false
 beaten c (Some b) v = c.no_more b.0 v
 
--- The elements of a list with their numbers, from n.
-abbrev pub numbered : {R : Type 0} → ℕ → List R → List (ℕ × R)
-numbered n [] = []
-numbered n (x ∷ xs) = (n, x) ∷ numbered (n + 1) xs
-
 -- The cost v with the pair of x at tone i and r at tone k, unless the pair breaks its bound.
 abbrev pub paired : {R V : Type 0} → Problem R → Costing V → ℕ → ℕ → R → R → V → Option V
 paired p c i k x r v = cond (nat_le (p.distance x r) (p.bound i k)) (Some (c.join v (c.worth (p.distance x r)))) None
@@ -39,7 +35,7 @@ row p c k r i (x ∷ xs) v = next (paired p c i k x r v) None (λ w. row p c k r
 unfoldable pub explore : {R V : Type 0} → Problem R → Costing V → List (List R) → List R → List ℕ → V → Found V → Found V
 explore p c [] laid s v f = cond (beaten c f.best v) f (record { best = Some (v, s); trials = f.trials })
 explore p c (cs ∷ rest) laid s v f =
-    cond (beaten c f.best v) f (fold (λ g x. next (row p c (length laid) x.1 0 laid v) (counted g) (λ w. explore p c rest (laid ++ (x.1 ∷ [])) (s ++ (x.0 ∷ [])) w (counted g))) f (numbered 0 cs))
+    cond (beaten c f.best v) f (fold (λ g x. next (row p c (length laid) x.1 0 laid v) (counted g) (λ w. explore p c rest (laid ++ (x.1 ∷ [])) (s ++ (x.0 ∷ [])) w (counted g))) f (enumerate_from 0 cs))
 
 -- The trial of one numbered candidate for the next tone.
 abbrev pub step : {R V : Type 0} → Problem R → Costing V → List (List R) → List R → List ℕ → V → Found V → ℕ × R → Found V

@@ -1,6 +1,6 @@
 -- What it is to settle a scale: choices, their bounds and cost, live starts, trials and the best choice.
 use Rattle.std.specs.Prelude.{◌≡◌, ℕ, ◌<◌, Bool, true, false, cond, not, ◌&&◌, ◌||◌, ◌⊎◌, List, [], ◌∷◌, map, length, take, fold, sum_by, ◌==◌, ◌≢◌, nat_le, nat_lt, slice_index, slice_index_or}
-use Rattle.std.specs.List.{range_with_len, flat_map}
+use Rattle.std.specs.List.{range_with_len, flat_map, list_all}
 
 -- A costing has a value nil, a value for each distance, a joining of two values, and a comparison.
 pub record Costing (V : Type 0) : Type 0 where
@@ -28,8 +28,7 @@ pub record Problem (R : Type 0) : Type 0 where
 
 -- The test holds of each.
 abbrev pub all : {A : Type 0} → (A → Bool) → List A → Bool
-all t [] = true
-all t (x ∷ xs) = t x && all t xs
+all = list_all
 
 -- The numbers below n, in order.
 abbrev pub below : ℕ → List ℕ

@@ -5,7 +5,7 @@ ghost use Rattle.std.specs.Prelude.{◌≡◌, length};
 use crate::settle::Sheet;
 use crate::yardstick::Yardstick;
 use costing::stack::Stack;
-use draft::draft::Draft;
+use draft::draft::{Draft, MOST_TONES};
 use ratio::ratio::Ratio;
 
 mod descend;
@@ -32,7 +32,8 @@ pub(crate) struct Best<V: Copy> {
 /// and the trials.
 #[derive(Drop)]
 pub(crate) struct Search<'a, V: Copy> {
-    pub(crate) laid: [Laid; 32],
+    // stays (no plainer): how many are laid is the depth of the search and the next tone's number; a list would count it again
+    pub(crate) laid: [Laid; MOST_TONES],
     pub(crate) costs: Stack<'a, V>,
     pub(crate) best: Option<Best<V>>,
     pub(crate) trials: u64,

@@ -24,6 +24,7 @@ impl<M: Measure, C: Costing> Quest<'_, '_, '_, M, C> {
         let measure = self.yardstick.measure;
         let costing = self.yardstick.costing;
         let cost = search.costs.top().unwrap();
+        // stays (rule): the best cost so far is an Option that is taken apart at each comparison of a start
         if let Some(best) = search.best {
             if costing.no_more(best.cost, cost) {
                 return Ok(());
@@ -34,6 +35,7 @@ impl<M: Measure, C: Costing> Quest<'_, '_, '_, M, C> {
             search.best = Some(Best { cost, sheet });
             return Ok(());
         };
+        // stays (rule): candidates with their index, and in them the laid tones, left by continue at the first broken bound
         'candidates: for (number, ratio) in candidates.iter().enumerate() {
             if search.trials == self.allowance {
                 return Err(Spent);
@@ -42,7 +44,6 @@ impl<M: Measure, C: Costing> Quest<'_, '_, '_, M, C> {
             let mut sum = cost;
             for (earlier, laid) in search.laid[..k].iter().enumerate() {
                 let apart = measure.distance(&laid.ratio, ratio);
-                // stays (rule): nested loops, and the first broken bound leaves the inner one
                 let Some(bound) = self.draft.bound_of(earlier, k) else {
                     continue 'candidates;
                 };

@@ -17,7 +17,7 @@ use measure::measure::Measure;
 
 impl<M: Measure, C: Costing> Yardstick<'_, M, C> {
     /// Puts one step to the draft.
-    // stays (no plainer): the sheet is a result and the stack is scratch, and a struct that borrows both would be taken apart here again
+    // stays (rule): settle and replay are public and keep their parameters; the sheet is a result, the stack scratch
     fn take_step(
         &self,
         draft: &mut Draft,
@@ -55,9 +55,9 @@ impl<M: Measure, C: Costing> Yardstick<'_, M, C> {
     {
         let mut draft = Draft::new();
         let count = steps.len().min(entries.len());
-        // stays (proof): after `steps.iter().zip(entries.iter_mut())` nothing is known of what stands in `entries`
-        for number in 0..count {
-            let answer = self.take_step(&mut draft, steps[number], sheet, stack);
+        // stays (proof): entries by index, for after `steps.iter().zip(entries.iter_mut())` nothing is known of what they hold
+        for (number, step) in steps[..count].iter().enumerate() {
+            let answer = self.take_step(&mut draft, *step, sheet, stack);
             entries[number] = Entry {
                 answer,
                 sheet: *sheet,

@@ -12,7 +12,7 @@ use crate::search::{Laid, Quest, Search};
 use crate::settle::{LARGEST_ALLOWANCE, STACK_PLACES, Settled, Sheet};
 use costing::costing::Costing;
 use costing::stack::Stack;
-use draft::draft::Draft;
+use draft::draft::{Draft, MOST_TONES};
 use measure::measure::Measure;
 use ratio::ratio::Ratio;
 
@@ -47,7 +47,7 @@ impl<M: Measure, C: Costing> Yardstick<'_, M, C> {
             number: 0,
         };
         let mut search = Search {
-            laid: [unison; 32],
+            laid: [unison; MOST_TONES],
             costs: Stack::over(stack),
             best: None,
             trials: 0,
@@ -60,9 +60,7 @@ impl<M: Measure, C: Costing> Yardstick<'_, M, C> {
         };
         quest.descend(&mut search, 0)?;
         let trials = search.trials;
-        let Some(best) = search.best else {
-            return Err(SearchFault::NoScale { trials });
-        };
+        let best = search.best.ok_or(SearchFault::NoScale { trials })?;
         sheet[..tones].copy_from_slice(&best.sheet[..tones]);
         Ok(Settled {
             cost: best.cost,
