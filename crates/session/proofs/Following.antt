@@ -1,5 +1,5 @@
 -- One line more of a session. Assumes nothing.
-use Rattle.std.proofs.Common.{◌≡◌, ℕ, ◌≤◌, unwrap_or, true, false, List, [], ◌∷◌, ◌++◌, length, get_or, take, drop, replicate, is_err, IfOk, Some, None, Ok, Err, codes, Option, Result, sym, refl, ap, ◌∙◌, subst, arith}
+use Rattle.std.proofs.Common.{◌≡◌, ℕ, ◌≤◌, unwrap_or, true, false, List, [], ◌∷◌, ◌++◌, length, get_or, take, drop, replicate, is_err, Some, None, Ok, Err, codes, Option, Result, sym, refl, ap, ◌∙◌, subst, arith}
 use Rattle.std.proofs.lemmas.Bool.{false≢true}
 use Rattle.std.proofs.lemmas.Option.{unwrap_or-slice_get}
 use Rattle.draft.proofs.Holding.{held_book}
@@ -125,14 +125,9 @@ pub scale_spoken : (line : List ℕ) (read : Result Command TextFault) (before a
 scale_spoken line (Ok command) before after b s did = refl
 scale_spoken line (Err fault) before after b s did = absurd (ok_err (Some s) (Text fault) did.0)
 
-same_fault : {A B : Type 0} (x y : B) → ◌≡◌ {A = Result A B} (Err x) (Err y) → x ≡ y
-same_fault x y e = cc
-
--- the text of a refusal
-pub refused_spoken : (line : List ℕ) (read : Result Command TextFault) (before after : Session) (b : Book) (fault : SessionFault) (tones : ℕ) (column : Option ℕ) → Obeyed read before after (Err fault)
-    → ToldAt read fault tones column → tones ≡ length b.tones → IfOk read (λ c. Placed line c.columns)
-    → Spoken line read b after.sheet (Err fault) (refusal_text (session_refusal fault (unwrap_or column 0)))
-refused_spoken line (Ok command) before after b fault tones column did told count placed =
+-- the text of a refusal of a command
+pub refused_spoken : (line : List ℕ) (command : Command) (b : Book) (sheet : List ℕ) (fault : SessionFault) (tones : ℕ) (column : Option ℕ)
+    → ToldAt command fault tones column → tones ≡ length b.tones → Placed line command.columns
+    → Spoken line (Ok command) b sheet (Err fault) (refusal_text (session_refusal fault (unwrap_or column 0)))
+refused_spoken line command b sheet fault tones column told count placed =
     ap (λ k. refusal_text (session_refusal fault k)) (ap (λ o. unwrap_or o 0) (told b line count placed) ∙ unwrap_or-slice_get (word_columns line) (fault_word b command.step fault) 0)
-refused_spoken line (Err f) before after b fault tones column did told count placed =
-    ap (λ x. refusal_text (session_refusal x (unwrap_or column 0))) (same_fault fault (Text f) did.0)

@@ -35,7 +35,6 @@ Obeyed (Err fault) before after r = (r ≡ Err (Text fault)) × (after ≡ befor
 abbrev pub ColumnOf : Columns → Call → DraftFault → ℕ → Option ℕ → Type 0
 ColumnOf columns call fault tones column = (b : Book) (line : List ℕ) → tones ≡ length b.tones → Placed line columns → column ≡ column_at line (draft_word b call fault)
 
--- the same of a fault of what was read
-abbrev pub ToldAt : Result Command TextFault → SessionFault → ℕ → Option ℕ → Type 0
-ToldAt (Err f) fault tones column = Unit {0}
-ToldAt (Ok command) fault tones column = (b : Book) (line : List ℕ) → tones ≡ length b.tones → Placed line command.columns → column ≡ column_at line (fault_word b command.step fault)
+-- the same of a fault of a command
+abbrev pub ToldAt : Command → SessionFault → ℕ → Option ℕ → Type 0
+ToldAt command fault tones column = (b : Book) (line : List ℕ) → tones ≡ length b.tones → Placed line command.columns → column ≡ column_at line (fault_word b command.step fault)

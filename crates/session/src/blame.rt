@@ -4,23 +4,17 @@ ghost use Rattle.session.specs.Obeying.{ColumnOf, ToldAt};
 
 use crate::fault::SessionFault;
 use command::command::{Columns, Command};
-use command::fault::TextFault;
 use draft::call::Call;
 use draft::fault::DraftFault;
 use settling::fault::SearchFault;
 use settling::step::Step;
 
-/// The column where a fault of the line that was read is told, if the draft has so many tones: that of the word at fault, or 1
-/// where it is the line as a whole; a fault of the text, which knows its own column, has none here.
+/// The column where a fault of a command is told, where the draft has this many tones: that of the word at fault, or 1 where
+/// it is the line as a whole.
 #[tactic(auto, using(crate::proofs::Columns::first_column))]
-pub(crate) fn told_at(
-    read: Result<Command, TextFault>,
-    fault: SessionFault,
-    tones: usize,
-) -> Option<usize>
-    ensures told { ToldAt read fault tones result }
+pub(crate) fn told_at(command: Command, fault: SessionFault, tones: usize) -> Option<usize>
+    ensures told { ToldAt command fault tones result }
 {
-    let command = read.ok()?;
     match (command.step, fault) {
         (Step::Enter { call }, SessionFault::Draft(fault)) => draft_column(
             command.columns,

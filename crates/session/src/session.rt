@@ -1,7 +1,7 @@
 //! A session, which is told lines and answers them.
 
 use draft::draft::Draft;
-use settling::settle::Sheet;
+use settling::settle::{STACK_PLACES, Sheet};
 
 pub mod hearing;
 
@@ -13,5 +13,5 @@ pub const ANSWER_ROOM: usize = 1280;
 pub struct Session {
     pub(crate) draft: Draft,
     pub(crate) sheet: Sheet,
-    pub(crate) stack: [u64; 33],
+    pub(crate) stack: [u64; STACK_PLACES],
 }

@@ -16,11 +16,11 @@ use crate::page::Page;
 use command::command::Command;
 use command::fault::TextFault;
 use costing::total::Total;
-use draft::draft::Draft;
+use draft::draft::{Draft, MOST_TONES};
 use measure::weighted::WeightedPrimes;
 use refusal::Refusal;
 use settling::fault::SearchFault;
-use settling::settle::Settled;
+use settling::settle::{STACK_PLACES, Settled};
 use settling::step::Step;
 use settling::yardstick::Yardstick;
 
@@ -31,8 +31,8 @@ impl Session {
     {
         Session {
             draft: Draft::new(),
-            sheet: [0; 32],
-            stack: [0; 33],
+            sheet: [0; MOST_TONES],
+            stack: [0; STACK_PLACES],
         }
     }
 
@@ -48,11 +48,12 @@ impl Session {
         let tones = self.draft.tones();
         let read = Command::read(line);
         let mut page = Page::over(answer);
-        match self.obey(read) {
-            Ok(None) => page.text(b"ok\n"),
-            Ok(Some(settled)) => page.scale(&self.draft, &self.sheet, settled),
-            Err(fault) => {
-                let column = told_at(read, fault, tones).unwrap_or(0);
+        match (read, self.obey(read)) {
+            (_, Ok(None)) => page.text(b"ok\n"),
+            (_, Ok(Some(settled))) => page.scale(&self.draft, &self.sheet, settled),
+            (Err(fault), Err(_)) => page.refusal(fault.refusal()),
+            (Ok(command), Err(fault)) => {
+                let column = told_at(command, fault, tones).unwrap_or(0);
                 page.refusal(fault.refusal(column));
             }
         }

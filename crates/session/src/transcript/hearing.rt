@@ -28,7 +28,7 @@ impl Transcript {
         ensures transcribed { (past said : List ℕ) → Transcribed self.old past said → Transcribed self.new (past ++ (byte ∷ [])) (said ++ take result answer.new) }
         ensures wrote { Wrote answer.old answer.new result }
     {
-        // stays (speed): Line::hear hands out a copy, with which 100,000 entries take 134 million instructions and not 68
+        // stays (speed): Line::hear hands out a copy; entries must stay as fast: 100,000 are 68 million instructions, not 134
         if ends_line(byte) {
             let end = self.answer(answer);
             self.line.clear();
@@ -56,6 +56,6 @@ impl Transcript {
     fn answer(&mut self, answer: &mut Answer) -> usize
         ensures answered { LineAnswered self.old self.new answer.old answer.new result }
     {
-        self.session.hear(self.line.bytes(), answer).unwrap_or(0)
+        self.session.hear(self.line.bytes(), answer).unwrap()
     }
 }
