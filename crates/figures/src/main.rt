@@ -12,6 +12,7 @@ use costing::total::Total;
 use costing::worst::Worst;
 use costing::worst_then_total::WorstThenTotal;
 use draft::call::Call;
+use draft::draft::MOST_TONES;
 use measure::measure::Measure;
 use measure::pitch::PitchGap;
 use measure::weighted::WeightedPrimes;
@@ -68,7 +69,7 @@ where
 {
     let heap = rt.alloc();
     let mut stack = vec![in heap; yardstick.costing.nothing(); STACK_PLACES]?;
-    let mut sheet = [UNTOUCHED; 32];
+    let mut sheet = [UNTOUCHED; MOST_TONES];
     let blank = Entry {
         answer: Answer::Entered { told: Ok(()) },
         sheet,

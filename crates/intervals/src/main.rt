@@ -10,7 +10,7 @@ fn main(rt: HostRuntime) -> io::Result<()> {
     let mut table = Table::new();
     let mut chunk = [0; 4096];
     // nothing says that an input ends, so the turns are counted
-    // stays (rule): `bytes()` of a BufReader would need the heap, and this program runs in fixed memory
+    // stays (rule): bytes() of a BufReader needs the heap: 7 axioms, not 4; one loop for both programs needs a public requires
     for _ in 0..u64::MAX {
         let count = input.read(&mut chunk)?;
         if count == 0 {

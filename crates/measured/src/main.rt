@@ -7,17 +7,18 @@ use costing::costing::Costing;
 use costing::total::Total;
 use costing::worst::Worst;
 use costing::worst_then_total::WorstThenTotal;
-use draft::draft::Draft;
+use draft::draft::{Draft, MOST_TONES};
 use lines::fixed::Hundredths;
 use measure::blind::OctaveBlind;
 use measure::measure::Measure;
 use measure::pitch::PitchGap;
 use measure::weighted::WeightedPrimes;
+use refusal::Refusal;
 use settling::settle::{STACK_PLACES, Settled, Sheet};
 use settling::step::Step;
 use settling::yardstick::Yardstick;
-use std::io;
 use std::io::{BufRead, BufReader};
+use std::{fmt, io};
 
 /// The measures to choose from.
 #[derive(Clone, Copy)]
@@ -38,37 +39,59 @@ enum CostingName {
 }
 
 /// A cost as the answer to a settling tells it.
-trait Told {
-    /// Prints the cost.
-    fn tell(&self, rt: &HostRuntime) -> io::Result<()>;
-}
-
-impl Told for u64 {
-    fn tell(&self, rt: &HostRuntime) -> io::Result<()> {
-        print!(rt; "{self}")
-    }
-}
-
-impl Told for (u64, u64) {
-    fn tell(&self, rt: &HostRuntime) -> io::Result<()> {
-        let (worst, total) = self;
-        print!(rt; "{worst},{total}")
-    }
-}
-
-/// What a session has entered, and by what it settles.
 #[derive(Clone, Copy)]
-struct Desk {
+struct Cost<V>(V);
+
+impl fmt::Display for Cost<u64> {
+    fn fmt<W: fmt::Write>(&self, f: &mut fmt::Formatter<W>) -> fmt::Result {
+        let Cost(cost) = self;
+        write!(f, "{cost}")
+    }
+}
+
+impl fmt::Display for Cost<(u64, u64)> {
+    fn fmt<W: fmt::Write>(&self, f: &mut fmt::Formatter<W>) -> fmt::Result {
+        let Cost((worst, total)) = self;
+        write!(f, "{worst},{total}")
+    }
+}
+
+/// What a session has entered, by what it settles, and what its answers are printed by.
+#[derive(Drop)]
+struct Desk<'a> {
+    rt: &'a HostRuntime,
     draft: Draft,
     sheet: Sheet,
     measure: MeasureName,
     costing: CostingName,
 }
 
-impl Desk {
-    /// Takes up one of the two commands of this program, if the line is one.
-    // stays (no plainer): one arm for each line that sets something; a TryFrom for each name would split the line first
-    fn chooses(&mut self, line: &[u8]) -> bool {
+impl<'a> Desk<'a> {
+    /// A desk with an empty draft, which settles by Barlow's measure and the total of the distances.
+    fn new(rt: &'a HostRuntime) -> Self {
+        Desk {
+            rt,
+            draft: Draft::new(),
+            sheet: [0; MOST_TONES],
+            measure: MeasureName::Barlow,
+            costing: CostingName::Total,
+        }
+    }
+
+    /// Answers one line; columns are told only of the text.
+    fn answer(&mut self, line: &[u8]) -> io::Result<()> {
+        if self.choose(line) {
+            return println!(self.rt; "ok");
+        }
+        match Command::read(line) {
+            Ok(command) => self.take(command.step),
+            Err(fault) => self.refuse(fault.refusal()),
+        }
+    }
+
+    /// Takes up a choice of measure or costing; says whether the line was one.
+    // stays (no plainer): an arm for each line that sets something or false; a TryFrom for each name would split the line first
+    fn choose(&mut self, line: &[u8]) -> bool {
         match line {
             b"measure barlow" => self.measure = MeasureName::Barlow,
             b"measure euler" => self.measure = MeasureName::Euler,
@@ -83,63 +106,69 @@ impl Desk {
         true
     }
 
+    /// Takes the step of a command, and prints the answer.
+    fn take(&mut self, step: Step) -> io::Result<()> {
+        match step {
+            Step::Settle { allowance } => self.settle(allowance),
+            Step::Enter { call } => match self.draft.put(call) {
+                Ok(()) => println!(self.rt; "ok"),
+                Err(fault) => self.refuse(fault.refusal(0)),
+            },
+        }
+    }
+
+    /// Prints a refusal.
+    fn refuse(&self, refusal: Refusal) -> io::Result<()> {
+        println!(self.rt; "{refusal}")
+    }
+
     /// Settles by the measure that was chosen.
-    fn settle(&mut self, rt: &HostRuntime, allowance: u64) -> io::Result<()> {
+    // stays (no plainer): each arm calls one generic text at another type; a costing has its own value type, so no dyn Costing
+    fn settle(&mut self, allowance: u64) -> io::Result<()> {
         let barlow = WeightedPrimes::barlow();
         match self.measure {
-            MeasureName::Barlow => self.settle_by(rt, &barlow, allowance),
-            MeasureName::Euler => self.settle_by(rt, &WeightedPrimes::euler(), allowance),
-            MeasureName::Pitch => self.settle_by(rt, &PitchGap, allowance),
-            MeasureName::BlindBarlow => self.settle_by(rt, &OctaveBlind(barlow), allowance),
-            MeasureName::BlindPitch => self.settle_by(rt, &OctaveBlind(PitchGap), allowance),
+            MeasureName::Barlow => self.settle_by(&barlow, allowance),
+            MeasureName::Euler => self.settle_by(&WeightedPrimes::euler(), allowance),
+            MeasureName::Pitch => self.settle_by(&PitchGap, allowance),
+            MeasureName::BlindBarlow => self.settle_by(&OctaveBlind(barlow), allowance),
+            MeasureName::BlindPitch => self.settle_by(&OctaveBlind(PitchGap), allowance),
         }
     }
 
     /// Settles by a measure and the costing that was chosen.
-    fn settle_by<M: Measure>(
-        &mut self,
-        rt: &HostRuntime,
-        measure: &M,
-        allowance: u64,
-    ) -> io::Result<()> {
+    fn settle_by<M: Measure>(&mut self, measure: &M, allowance: u64) -> io::Result<()> {
         match self.costing {
-            CostingName::Total => self.tell_settling(rt, measure, &Total, allowance),
-            CostingName::Worst => self.tell_settling(rt, measure, &Worst, allowance),
-            CostingName::WorstThenTotal => {
-                self.tell_settling(rt, measure, &WorstThenTotal, allowance)
-            }
+            CostingName::Total => self.tell_settling(measure, &Total, allowance),
+            CostingName::Worst => self.tell_settling(measure, &Worst, allowance),
+            CostingName::WorstThenTotal => self.tell_settling(measure, &WorstThenTotal, allowance),
         }
     }
 
     /// Settles by a measure and a costing, with a stack from the heap, and prints the answer.
     fn tell_settling<M: Measure, C: Costing>(
         &mut self,
-        rt: &HostRuntime,
         measure: &M,
         costing: &C,
         allowance: u64,
     ) -> io::Result<()>
     where
-        C::Value: Clone + Told,
+        C::Value: Clone,
+        Cost<C::Value>: fmt::Display,
     {
-        let mut stack = vec![in rt.alloc(); costing.nothing(); STACK_PLACES]?;
+        let mut stack = vec![in self.rt.alloc(); costing.nothing(); STACK_PLACES]?;
         let yardstick = Yardstick { measure, costing };
         match yardstick.settle(&self.draft, allowance, &mut self.sheet, &mut stack) {
             Ok(Settled { cost, trials }) => {
-                print!(rt; "scale ")?;
-                cost.tell(rt)?;
-                println!(rt; " {trials}")?;
-                self.tell_tones(rt)
+                let cost = Cost(cost);
+                println!(self.rt; "scale {cost} {trials}")?;
+                self.tell_tones()
             }
-            Err(fault) => {
-                let refusal = fault.refusal(1);
-                println!(rt; "{refusal}")
-            }
+            Err(fault) => self.refuse(fault.refusal(1)),
         }
     }
 
     /// Prints the ratio of each tone, and how far it lies from the tone's pitch.
-    fn tell_tones(&self, rt: &HostRuntime) -> io::Result<()> {
+    fn tell_tones(&self) -> io::Result<()> {
         for (tone, number) in self.sheet.iter().enumerate() {
             let (Some(candidates), Some(pitch)) = (
                 self.draft.candidates(tone),
@@ -154,46 +183,17 @@ impl Desk {
             let below = ratio.pitch() < pitch && hundredths > 0;
             let sign = if below { '-' } else { '+' };
             let cents = Hundredths(hundredths);
-            println!(rt; "{ratio} {sign}{cents}")?;
+            println!(self.rt; "{ratio} {sign}{cents}")?;
         }
         Ok(())
     }
 }
 
-/// Answers one line; columns are told only of the text.
-fn answer(rt: &HostRuntime, desk: &mut Desk, line: &[u8]) -> io::Result<()> {
-    if desk.chooses(line) {
-        return println!(rt; "ok");
-    }
-    let command = match Command::read(line) {
-        Ok(command) => command,
-        Err(fault) => {
-            let refusal = fault.refusal();
-            return println!(rt; "{refusal}");
-        }
-    };
-    match command.step {
-        Step::Settle { allowance } => desk.settle(rt, allowance),
-        Step::Enter { call } => match desk.draft.put(call) {
-            Ok(()) => println!(rt; "ok"),
-            Err(fault) => {
-                let refusal = fault.refusal(0);
-                println!(rt; "{refusal}")
-            }
-        },
-    }
-}
-
 fn main(rt: HostRuntime) -> io::Result<()> {
-    let mut desk = Desk {
-        draft: Draft::new(),
-        sheet: [0; 32],
-        measure: MeasureName::Barlow,
-        costing: CostingName::Total,
-    };
+    let mut desk = Desk::new(&rt);
     for line in BufReader::new(rt.alloc(), rt.stdin())?.split(rt.alloc(), b'\n') {
         let line = line?;
-        answer(&rt, &mut desk, line.as_slice())?;
+        desk.answer(line.as_slice())?;
     }
     Ok(())
 }
