@@ -169,16 +169,11 @@ impl<'a> Desk<'a> {
 
     /// Prints the ratio of each tone, and how far it lies from the tone's pitch.
     fn tell_tones(&self) -> io::Result<()> {
-        for (tone, number) in self.sheet.iter().enumerate() {
-            let (Some(candidates), Some(pitch)) = (
-                self.draft.candidates(tone),
-                self.draft.pitch(tone),
-            ) else {
+        for (tone, number) in self.draft.listed().iter().zip(&self.sheet) {
+            let Some(ratio) = tone.candidates().get(usize::from(*number)) else {
                 return Ok(());
             };
-            let Some(ratio) = candidates.get(usize::from(*number)) else {
-                return Ok(());
-            };
+            let pitch = tone.pitch();
             let hundredths = ratio.pitch().abs_diff(pitch) / 10;
             let below = ratio.pitch() < pitch && hundredths > 0;
             let sign = if below { '-' } else { '+' };

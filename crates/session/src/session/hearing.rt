@@ -53,7 +53,7 @@ impl Session {
             (_, Ok(Some(settled))) => page.scale(&self.draft, &self.sheet, settled),
             (Err(fault), Err(_)) => page.refusal(fault.refusal()),
             (Ok(command), Err(fault)) => {
-                // a word that is not in the line has column 0, as in the promise
+                // stays (no plainer): by the promise a word that is not in the line has column 0; to unwrap would promise no more
                 let column = told_at(command, fault, tones).unwrap_or(0);
                 page.refusal(fault.refusal(column));
             }
