@@ -17,7 +17,7 @@ pub fn read_number(word: &[u8]) -> Option<u64>
         return None;
     }
     let mut number = 0;
-    // stays (speed): `parse` behind a test of the digits takes the entries of the benchmarks from 12.4 ms to 14.4, of which the rivals take 10.7
+    // stays (speed): `parse` behind a test of the digits takes 100,000 entries from 12.4 ms to 14.4, where the rivals take 10.7
     for byte in word {
         if !byte.is_ascii_digit() {
             return None;

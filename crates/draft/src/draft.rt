@@ -24,7 +24,7 @@ const PAIRS: usize = MOST_TONES * (MOST_TONES - 1) / 2;
 /// of the 32 places.
 ///
 /// Fixed tables, so that no call can fail for want of memory. The bound of the pair i < j stands at place j(j - 1)/2 + i.
-// stays (no plainer): no Model, as a book bounds any two numbers and a draft 32 places; clauses range over the books it holds.
+// stays (no plainer): no Model, as a book bounds any two numbers and a draft 32 places; clauses range over the books it holds
 #[derive(Clone, Copy)]
 pub struct Draft {
     pub(crate) tones: Places<Tone, MOST_TONES>,

@@ -31,5 +31,6 @@ pub fn rounded(units: u32) -> u32
     ensures value { result ≡ hundredths units }
     ensures nearest { Nearest units result }
 {
+    // stays (no plainer): `as` of a number that is proved to fit; `try_from` would add a case that never is
     ((100 * u64::from(units) + 15_015) / 30_030) as u32
 }

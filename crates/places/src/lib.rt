@@ -8,8 +8,8 @@ use std::alloc::AllocError;
 mod listing;
 
 /// A list that lies in a fixed table of `N` places, of which the first `count` are taken.
-// stays (rule): arrayvec's ArrayVec is not Copy, which the public types that hold a list here are.
-// stays (no plainer): clauses say `listed`, no Model: Copy needs an inverse, and a view that forgets the untaken places has none.
+// stays (rule): arrayvec's ArrayVec is not Copy, which the public types that hold a list here are
+// stays (no plainer): clauses say `listed`, no Model: Copy needs an inverse, and a view that forgets the untaken places has none
 pub struct Places<T: Copy, const N: usize> {
     pub(crate) table: [T; N],
     pub(crate) count: usize,
@@ -19,7 +19,7 @@ pub struct Places<T: Copy, const N: usize> {
 
 impl<T: Copy, const N: usize> Copy for Places<T, N> {}
 
-// stays (proof): a derive of Clone is refused over ghost fields in a generic type.
+// stays (proof): a derive of Clone is refused over ghost fields in a generic type
 impl<T: Copy, const N: usize> Clone for Places<T, N> {
     ghost use Rattle.std.specs.Prelude.{⊤};
 

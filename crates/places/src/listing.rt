@@ -59,7 +59,7 @@ impl<T: Copy, const N: usize> Places<T, N> {
     }
 
     /// Puts an item in the place of another, which is returned, or `None` if the place is not taken.
-    // stays (proof): lent as `&mut`, a place proves only by a walk of the machine by hand, not worth saving one copy of a tone.
+    // stays (proof): lent as `&mut`, a place gets no generated proof: the borrow checker does not yet cover a part of a `[T; N]`
     pub fn replace(&mut self, place: usize, item: T) -> Option<T>
         ensures replaced { result ≡ slice_get (listed self.old) place }
         ensures listed { listed self.new ≡ slice_set (listed self.old) place item }

@@ -70,7 +70,7 @@ impl Factors {
     fn minus(&self, other: &Factors) -> [i8; 6]
         ensures { result ≡ minus self.now.multiplicities other.now.multiplicities }
     {
-        // stays (no plainer): an array has no `zip`, so only a place tells which two multiplicities belong together
+        // stays (no plainer): an array has no `zip`, so a place tells which two belong together; `as`, since both fit by proof
         array::from_fn(|place| {
             self.multiplicities[place] as i8 - other.multiplicities[place] as i8
         })

@@ -74,6 +74,7 @@ impl<'a> Page<'a> {
     {
         let sign = if thousandths <= -10 { b'-' } else { b'+' };
         let hundredths = thousandths.unsigned_abs() / 10;
+        // stays (no plainer): `as` of digits, which are proved to fit; `try_from` would add a case that never is
         let tenth = b'0' + (hundredths / 10 % 10) as u8;
         let hundredth = b'0' + (hundredths % 10) as u8;
         self.text(&[sign]);

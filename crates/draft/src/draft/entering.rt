@@ -21,6 +21,7 @@ impl Draft {
     {
         Draft {
             tones: Places::empty(Tone::new(0)),
+            // stays (no plainer): `as` of a constant that fits; `try_from` would add a case that never is
             bounds: [LARGEST_BOUND as u32; PAIRS],
         }
     }
@@ -132,5 +133,6 @@ fn held_bound(bound: u64) -> Result<u32, DraftFault>
     if bound > LARGEST_BOUND {
         return Err(DraftFault::OutOfLimits);
     }
+    // stays (no plainer): `as` of a number that is proved to fit; `try_from` would add a case that never is
     Ok(bound as u32)
 }

@@ -35,6 +35,7 @@ impl Transcript {
             end
         } else {
             self.line.push(byte);
+            // stays (no plainer): 0 is how many bytes are written, and the clauses take so many of the buffer
             0
         }
     }

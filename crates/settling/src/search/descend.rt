@@ -24,7 +24,7 @@ impl<M: Measure, C: Costing> Quest<'_, '_, '_, M, C> {
         let measure = self.yardstick.measure;
         let costing = self.yardstick.costing;
         let cost = search.costs.top().unwrap();
-        // stays (rule): the best cost so far is an Option that is taken apart at each comparison of a start
+        // stays (rule): the project asks for the best cost as an Option, taken apart at each comparison of a start
         if let Some(best) = search.best {
             if costing.no_more(best.cost, cost) {
                 return Ok(());
@@ -54,6 +54,7 @@ impl<M: Measure, C: Costing> Quest<'_, '_, '_, M, C> {
             }
             search.laid[k] = Laid {
                 ratio: *ratio,
+                // stays (no plainer): `as` of a number that is proved to fit; `try_from` would add a case that never is
                 number: number as u8,
             };
             search.costs.push(sum).unwrap();
