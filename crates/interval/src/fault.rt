@@ -31,6 +31,7 @@ impl LineFault {
     pub fn refusal(self) -> Refusal
         ensures { result ≡ line_refusal self }
     {
+        // stays (no plainer): `command` tells two such faults by the same numbers, but lies above, and each layer has its own faults
         match self {
             LineFault::TooLong => Refusal {
                 layer: Layer::Text,

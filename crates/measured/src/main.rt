@@ -174,6 +174,7 @@ impl<'a> Desk<'a> {
                 return Ok(());
             };
             let pitch = tone.pitch();
+            // stays (proof): the session writes an offset without Display, for whose errors nothing is promised
             let hundredths = ratio.pitch().abs_diff(pitch) / 10;
             let below = ratio.pitch() < pitch && hundredths > 0;
             let sign = if below { '-' } else { '+' };
