@@ -1,16 +1,9 @@
 -- The last of a list taken off, and a value put on a list and taken off again.
-use Rattle.std.proofs.Common.{◌≡◌, ℕ, suc, ◌+◌, ◌-◌, ◌<◌, ◌≤◌, List, [], ◌∷◌, ◌++◌, length, get_or, take, Some, None, Option, sym, refl, ap, ◌∙◌, take_all, arith}
+use Rattle.std.proofs.Common.{◌≡◌, suc, ◌+◌, ◌-◌, ◌<◌, List, [], ◌∷◌, ◌++◌, length, take, Some, None, Option, sym, refl, ap, ◌∙◌, take_all, arith}
 use Rattle.std.specs.List.{slice_get}
 use Rattle.std.proofs.lemmas.Option.{slice_get-get_or}
 use Rattle.std.proofs.lemmas.List.{take_more, length_push, same_from_push}
 use Rattle.costing.specs.Stacks.{TakenOff}
-
--- a front that is not empty ends with the value at its last place
-pub front_last : {V : Type 0} (xs : List V) (n : ℕ) (v : V) → 0 < n → n ≤ length xs → v ≡ get_or xs (n - 1) v → take n xs ≡ take (n - 1) xs ++ (v ∷ [])
-front_last xs n v some within read =
-    let back : n - 1 + 1 ≡ n = omega arith in
-    let all = take_more xs (n - 1) v (omega arith) in
-    cc
 
 -- the last value of a list, if there is one, taken off
 pub last_off : {V : Type 0} (xs : List V) → TakenOff (slice_get xs (length xs - 1)) xs (take (length xs - 1) xs)
