@@ -1,7 +1,5 @@
 -- What is read of a book for the line of a tone, and how the lines follow one another. Assumes nothing.
-use Rattle.std.proofs.Common.{◌≡◌, ℕ, zero, suc, ◌+◌, ◌^◌, ◌<◌, ◌≤◌, List, [], ◌∷◌, ◌++◌, map, length, get_or, ℤ, pos, ◌-ℤ◌, nat_abs, Some, None, codes, decimal, Option, unwrap_or, sym, ap, ◌∙◌, append_assoc, arith, length-append, Bor, MatchOption}
-use Rattle.std.specs.Option.{option_map}
-use Rattle.std.proofs.lemmas.List.{get_or_past}
+use Rattle.std.proofs.Common.{◌≡◌, ℕ, zero, suc, ◌+◌, ◌^◌, ◌<◌, ◌≤◌, List, [], ◌∷◌, ◌++◌, map, length, get_or, ℤ, pos, ◌-ℤ◌, nat_abs, codes, decimal, sym, ap, ◌∙◌, append_assoc, arith, length-append}
 use Rattle.std.specs.List.{flat_map}
 use Rattle.draft.specs.Book.{Book, candidates_of}
 use Rattle.draft.proofs.Holding.{held_count, held_book}
@@ -18,11 +16,6 @@ use Rattle.std.proofs.lemmas.Fmt.{length-decimal-le}
 use Rattle.session.proofs.Pages.{ratio_short, offset_short}
 use Rattle.session.specs.Answers.{pitch_of, ratio_line, heading}
 use Rattle.session.specs.Pages.{offset_text}
-
--- what a slice lends of a place, or else d
-pub lent_or : {X : Type 0} (xs : List X) (i : ℕ) (d : X) (o : Option (Bor X)) → MatchOption o (length xs ≤ i) (λ x. (i < length xs) × ((e : X) → x.now ≡ get_or xs i e)) → unwrap_or (option_map (λ x. x.now) o) d ≡ get_or xs i d
-lent_or xs i d None h = sym (get_or_past xs i d h)
-lent_or xs i d (Some x) h = h.1 d
 
 -- a listed tone by its number, as the book notes it
 noted_pitch : (ts : List Tone) (k : ℕ) → k < length ts → (x : Tone) → x ≡ get_or ts k x → x.pitch ≡ get_or (map (λ n. n.pitch) (map noted ts)) k (pos 0)

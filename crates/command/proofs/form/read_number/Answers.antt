@@ -1,13 +1,8 @@
-use Rattle.std.proofs.Common.{Some, None, pow-add, rules}
+use Rattle.std.proofs.Common.{Some, None, rules}
 use Rattle.std.proofs.lemmas.List.{at_drop_more, at_drop_all}
 use Rattle.command.specs.Forms.{NumberRead}
 use Rattle.command.proofs.Numbers.{read_on, none_read, digits_read, printed_number}
 use Rattle.command.proofs.form.read_number.Goals as goal
-
-pub loop-byte-preserved : goal.loop-byte-preserved
-loop-byte-preserved c =
-    let e = at_drop_more (read_on c.loop-byte.number) c.args.word.now c.loop-byte.byte-index 0 (search rules) in
-    search (rules, e, pow-add 10 c.loop-byte.byte-index 1)
 
 pub returns-then-is_empty : goal.returns-then-is_empty
 returns-then-is_empty c =

@@ -9,12 +9,9 @@ use Rattle.ratio.specs.Parts.{unison}
 use Rattle.settling.specs.Settling.{below}
 use Rattle.std.specs.List.{flat_map}
 use Rattle.session.specs.Answers.{ratio_line, tone_line, heading, laid_at}
-use Rattle.session.proofs.Pages.{then, as_text, nothing_written}
+use Rattle.session.proofs.Pages.{then, as_text}
 use Rattle.session.proofs.Scaling.{few_held, lines_more, tone_listed, tone_pitch, heading_short}
 use Rattle.session.proofs.page.Page.scale.Goals as goal
-
-pub loop-tone-init : goal.loop-tone-init
-loop-tone-init c = λ b h. (nothing_written c.heading.new.self, omega arith)
 
 pub loop-tone-preserved : goal.loop-tone-preserved
 loop-tone-preserved c = λ b h.

@@ -1,22 +1,10 @@
-use Rattle.std.proofs.Common.{◌≡◌, [], ◌∷◌, ◌++◌, take, refl, ap, ◌∙◌, subst, append-nil, arith}
+use Rattle.std.proofs.Common.{◌≡◌, [], ◌∷◌, ◌++◌, take, ap, ◌∙◌, subst, arith}
 use Rattle.std.proofs.lemmas.Bool.{false≢true}
 use Rattle.lines.specs.Hearing.{held}
 use Rattle.lines.specs.Splitting.{ended, open_line}
 use Rattle.session.specs.Following.{Followed}
-use Rattle.session.proofs.Transcribing.{followed_held, lines_with_last, lines_without_last, row_more}
+use Rattle.session.proofs.Transcribing.{followed_held, lines_with_last, row_more}
 use Rattle.session.proofs.transcript.Transcript.finish.Goals as goal
-
-pub returns-then-is_empty : goal.returns-then-is_empty
-returns-then-is_empty c = record {
-  finished = λ past said f.
-      record {
-        heard = c.if-is_empty.ensures.nothing_held.0 refl;
-        answers = f.answers;
-        followed = subst (λ lines. Followed c.args.self.now.session lines f.answers) (lines_without_last past ((c.if-is_empty.ensures.nothing_heard (open_line past) f.heard).0 refl)) f.followed;
-        spoken = append-nil said ∙ f.spoken;
-      };
-  wrote = record { within = omega arith; rest = refl };
-}
 
 pub returns : goal.returns
 returns c =

@@ -1,4 +1,4 @@
-use Rattle.std.proofs.Common.{[], ◌∷◌, ◌++◌, take, sym, refl, ap, ◌∙◌, subst, append-nil, arith}
+use Rattle.std.proofs.Common.{[], ◌∷◌, ◌++◌, take, sym, ap, ◌∙◌, subst, arith}
 use Rattle.lines.specs.Hearing.{held}
 use Rattle.lines.specs.Splitting.{ended, open_line}
 use Rattle.session.specs.Following.{Followed}
@@ -20,15 +20,3 @@ returns-then-ends_line c =
           };
       wrote = record { within = omega (arith, by.one.within, by.room); rest = by.one.rest };
     }
-
-pub returns-else-ends_line : goal.returns-else-ends_line
-returns-else-ends_line c = record {
-  transcribed = λ past said f.
-      record {
-        heard = c.push.ensures.heard (open_line past) f.heard ∙ ap (take 81) (sym (c.if-ends_line.ensures.goes_on past));
-        answers = f.answers;
-        followed = subst (λ lines. Followed c.args.self.now.session lines f.answers) (sym (c.if-ends_line.ensures.ends past ∙ append-nil (ended past))) f.followed;
-        spoken = append-nil said ∙ f.spoken;
-      };
-  wrote = record { within = omega arith; rest = refl };
-}
