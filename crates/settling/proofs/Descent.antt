@@ -4,7 +4,7 @@ use Rattle.costing.specs.Stacks.{Held, room, PutOn, TakenOff}
 use Rattle.costing.proofs.Stacked.{taken_put}
 use Rattle.std.specs.Option.{option_map}
 use Rattle.std.specs.List.{slice_get}
-use Rattle.std.proofs.lemmas.List.{drop_all, take-take, take-set, take_more_set, length-take-le, take-map, get_or-map, map-append, length-map}
+use Rattle.std.proofs.lemmas.List.{drop_all, take_all, take-take, take-set, take_more, take_more_set, length-take-le, get_or-map, map-append, length-map}
 use Rattle.draft.specs.Book.{Noted, Book}
 use Rattle.draft.proofs.Holding.{entered_count, held_length, held_book, read_there}
 use Rattle.draft.specs.Held.{entered_tones, Holds, book_of}
@@ -79,6 +79,23 @@ whole : {V : Type 0} (dist : Ratio → Ratio → ℕ) (c : Costing V) (k : ℕ) 
     → searched dist c b k v entry ≡ explore (problem dist b) c (cs ∷ drop (k + 1) (rows b)) (ratios (take k entry.laid)) (numbers (take k entry.laid)) v (found (length b.tones) entry)
 whole dist c k v cs entry b read = ap (λ rest. explore (problem dist b) c rest (ratios (take k entry.laid)) (numbers (take k entry.laid)) v (found (length b.tones) entry)) (next_row b k cs (sym read))
 
+-- ---- the numbers of what is laid, written to a sheet one after another
+
+-- one number more
+pub written_on : (items : List Laid) (sheet : List ℕ) {e : ℕ} (l : Laid) → e < length items → l ≡ get_or items e l → e < length sheet → take e sheet ≡ take e (numbers items)
+    → take (e + 1) (set sheet e l.number) ≡ take (e + 1) (numbers items)
+written_on items sheet {e} l inside is room_left same =
+    let at : l.number ≡ get_or (numbers items) e l.number = ap (λ (l : Laid). l.number) is ∙ sym (get_or-map (λ (l : Laid). l.number) items e l l.number inside) in
+    let more = take_more (numbers items) e l.number (omega (arith, length-map items (λ (l : Laid). l.number))) in
+    take_more_set sheet e l.number room_left ∙ (ap (λ ns. ns ++ (l.number ∷ [])) same ∙ (ap (λ n. take e (numbers items) ++ (n ∷ [])) at ∙ sym more))
+
+-- all of them
+pub written_all : (laid : List Laid) (k : ℕ) → k ≤ length laid → (sheet : List ℕ) {e : ℕ} → take e sheet ≡ take e (numbers (take k laid)) → e ≤ length (take k laid) → length (take k laid) ≤ e → take k sheet ≡ numbers (take k laid)
+written_all laid k long sheet {e} same most least =
+    let ends : e ≡ k = omega (arith, length-take-le k laid long) in
+    let size = length-map (take k laid) (λ (l : Laid). l.number) in
+    ap (λ n. take n sheet) (sym ends) ∙ (same ∙ take_all e (numbers (take k laid)) (omega arith))
+
 module _ {V : Type 0} {dist : Ratio → Ratio → ℕ} {c : Costing V} {d : Draft} {allowance k : ℕ} {v : V} where
   -- ---- a start that is left at once, and one with every tone laid
 
@@ -91,7 +108,7 @@ module _ {V : Type 0} {dist : Ratio → Ratio → ℕ} {c : Costing V} {d : Draf
     finds = λ b h. sym (explore_beaten (problem dist b) c (drop k (rows b)) (ratios (take k s.laid)) (numbers (take k s.laid)) v (found (length b.tones) s) (beaten_some c v e (length b.tones) ∙ more));
   }
 
-  pub went_end : {s s' : Search V} {sheet : List ℕ} → sheet ≡ numbers s.laid → s'.laid ≡ s.laid → s'.costs ≡ s.costs → s'.best ≡ Some (record { cost = v; sheet = sheet }) → s'.trials ≡ s.trials
+  pub went_end : {s s' : Search V} {sheet : List ℕ} → take k sheet ≡ numbers (take k s.laid) → s'.laid ≡ s.laid → s'.costs ≡ s.costs → s'.best ≡ Some (record { cost = v; sheet = sheet }) → s'.trials ≡ s.trials
       → ((n : ℕ) → beaten c (seen n s.best) v ≡ false) → ((b : Book) → Holds d b → None ≡ candidates_in b k) → s.trials ≤ allowance → k ≤ length (entered_tones d) → Went dist c d allowance k v s s'
   went_end {s} {s'} {sheet} written laid costs best trials unbeaten none within few = record {
     laid = ap (take k) laid;
@@ -102,7 +119,7 @@ module _ {V : Type 0} {dist : Ratio → Ratio → ℕ} {c : Costing V} {d : Draf
         let n : ℕ = length b.tones in
         let past = no_row b k (sym (none b h)) in
         let same : n ≡ k = omega (arith, past.1, held_length d b h) in
-        let front : take n sheet ≡ numbers (take k s.laid) = ap (take n) written ∙ (ap (λ m. take m (numbers s.laid)) same ∙ take-map (λ (l : Laid). l.number) k s.laid) in
+        let front : take n sheet ≡ numbers (take k s.laid) = ap (λ m. take m sheet) same ∙ written in
         let end = explore_end (problem dist b) c (ratios (take k s.laid)) (numbers (take k s.laid)) v (found n s) (unbeaten n) in
         let here = ap (λ rest. explore (problem dist b) c rest (ratios (take k s.laid)) (numbers (take k s.laid)) v (found n s)) past.0 in
         let is : found n s' ≡ record { best = Some (v, numbers (take k s.laid)); trials = s.trials } = λ i. record { best = (ap (seen n) best ∙ ap (λ ns. Some (v, ns)) front) i; trials = trials i } in

@@ -8,6 +8,7 @@ ghost use Rattle.settling.specs.Searching.{Went, Overspent};
 
 use super::{Best, Laid, Quest, Search, Spent};
 use costing::costing::Costing;
+use draft::draft::MOST_TONES;
 use measure::measure::Measure;
 
 impl<M: Measure, C: Costing> Quest<'_, '_, '_, M, C> {
@@ -31,7 +32,10 @@ impl<M: Measure, C: Costing> Quest<'_, '_, '_, M, C> {
             }
         }
         let Some(candidates) = self.draft.candidates(k) else {
-            let sheet = search.laid.map(|laid| laid.number);
+            let mut sheet = [0; MOST_TONES];
+            for (place, placed) in search.laid[..k].iter().enumerate() {
+                sheet[place] = placed.number;
+            }
             search.best = Some(Best { cost, sheet });
             return Ok(());
         };

@@ -1,17 +1,14 @@
 use Rattle.std.proofs.Common.{◌≡◌, ℕ, ◌+◌, ◌<◌, ◌≤◌, false, length, take, sym, refl, ap, ◌∙◌, arith, rules}
-use Rattle.std.proofs.lemmas.List.{length_push}
+use Rattle.std.proofs.lemmas.List.{length_push, length-take-le, length-set}
 use Rattle.std.proofs.lemmas.Result.{MatchResult-from_err}
 use Rattle.costing.specs.Stacks.{room}
 use Rattle.costing.proofs.Stacked.{taken_put}
 use Rattle.draft.specs.Book.{Book}
 use Rattle.draft.specs.Held.{Holds}
-use Rattle.ratio.specs.Parts.{unison}
-use Rattle.ratio.proofs.Multiplicities.{mapped}
 use Rattle.settling.specs.Explore.{beaten}
 use Rattle.settling.specs.Posed.{problem, meant}
 use Rattle.settling.specs.Searching.{ratios, seen}
-use Rattle.settling.specs.declared.search.Laid.{Laid}
-use Rattle.settling.proofs.Descent.{there, beaten_some, beaten_none, went_beaten, went_end, trying_all, spent_now, trying_broken, spent_child, trying_on, many_laid, laid_before, laid_at, bound_read, bound_some, on_top, cost_on, went_of, overspent_of}
+use Rattle.settling.proofs.Descent.{there, beaten_some, beaten_none, went_beaten, went_end, trying_all, spent_now, trying_broken, spent_child, trying_on, many_laid, laid_before, laid_at, bound_read, bound_some, few_tones, written_on, written_all, on_top, cost_on, went_of, overspent_of}
 use Rattle.settling.proofs.Rows.{paired_over, paired_within, row_some, row_none, row_end}
 use Rattle.settling.proofs.search.Quest.+descend.Goals as goal
 use Rattle.settling.proofs.search.Quest.+descend.Goals.{in-Some+else-no_more, in_default}
@@ -19,15 +16,23 @@ use Rattle.settling.proofs.search.Quest.+descend.Goals.{in-Some+else-no_more, in
 pub returns-in_default-candidates : goal.returns-in_default-candidates
 returns-in_default-candidates g t c =
     let cst = meant g.C.Costing in
+    let k = c.args.k in
     let s = c.args.search.now in
     let cost = c.unwrap-cost.result in
     let unbeaten : (n : ℕ) → beaten cst (seen n s.best) cost ≡ false = λ n. elim c.match-search.branch [
       | in-Some+else-no_more w ↦ beaten_some cst cost w.in-Some.is n ∙ (sym w.no_more.ensures ∙ w.if-no_more.false)
       | in_default w ↦ beaten_none cst cost w.in_default.is n
     ] in
-    let none_laid : Laid = record { ratio = unison; number = 0 } in
-    let written = mapped (λ (l : Laid). l.number) s.laid c.map-sheet.result none_laid 0 (omega (arith, c.map-sheet.ensures.items.long, s.places)) (λ i h. search (rules, c.map-sheet.ensures.items.at i none_laid 0 (omega (arith, s.places)))) in
+    let small : k ≤ length s.laid = omega (arith, c.requires.within_draft, few_tones c.args.self.now.draft.now, s.places) in
+    let written = written_all s.laid k small c.loop-place.sheet c.loop-place.invariant.0 c.loop-place.auto.place-end (omega (arith, c.loop-place-test.false)) in
     record { searched = λ past v e. went_of (on_top c.top.ensures.0 c.unwrap-cost.ensures c.top.ensures.1 past v e) (went_end written refl refl refl refl unbeaten c.in_default-candidates.ensures.by_book c.requires.within_allowance c.requires.within_draft) }
+
+pub loop-place-preserved : goal.loop-place-preserved
+loop-place-preserved g t c =
+    let done = c.loop-place.invariant in
+    let small : c.args.k ≤ length c.args.search.now.laid = omega (arith, c.requires.within_draft, few_tones c.args.self.now.draft.now, c.args.search.now.places) in
+    let room_left : c.loop-place.place < length c.loop-place.sheet = omega (arith, c.loop-place-test.true, length-take-le c.args.k c.args.search.now.laid small, done.1, c.args.search.now.places) in
+    (written_on (take c.args.k c.args.search.now.laid) c.loop-place.sheet c.placed-item.result c.loop-place-test.true c.placed-item.is room_left done.0, length-set _ _ _ ∙ done.1)
 
 -- It stands behind the answers above, since a wrong body is told of at the first answer that fails.
 pub returns-then-no_more : goal.returns-then-no_more

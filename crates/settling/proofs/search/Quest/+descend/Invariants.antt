@@ -1,9 +1,9 @@
-use Rattle.std.proofs.Common.{◌≡◌, ◌-◌, drop}
+use Rattle.std.proofs.Common.{◌≡◌, ◌-◌, length, take, drop}
 use Rattle.draft.specs.Book.{Book}
 use Rattle.draft.specs.Held.{Holds}
 use Rattle.settling.specs.Explore.{row}
 use Rattle.settling.specs.Posed.{problem, meant}
-use Rattle.settling.specs.Searching.{ratios}
+use Rattle.settling.specs.Searching.{ratios, numbers}
 use Rattle.settling.proofs.Descent.{Trying}
 use Rattle.settling.proofs.search.Quest.+descend.Given as goal
 
@@ -12,6 +12,10 @@ decreases-descend g l = 33 - l.k
 
 abbrev pub invariant-candidates : goal.invariant-candidates
 invariant-candidates g l = Trying (g.M.Measure.dist l.self.yardstick.now.measure.now) (meant g.C.Costing) l.self.draft.now l.self.allowance l.k l.cost l.candidates l.number l.initial.search l.search
+
+-- so far the sheet has the numbers of what is laid
+abbrev pub invariant-loop-place : goal.invariant-loop-place
+invariant-loop-place g l = (take l.place l.sheet ≡ take l.place (numbers l.placed-items)) × (length l.sheet ≡ 32)
 
 abbrev pub invariant-loop-earlier : goal.invariant-loop-earlier
 invariant-loop-earlier g l =
