@@ -15,7 +15,10 @@ impl Ratio {
         let mut product = 1;
         for (prime, exponent) in PRIMES.iter().zip(&self.exponents) {
             if let Ok(times) = u32::try_from(*exponent) {
-                product *= prime.pow(times);
+                // most exponents are 0, and a test takes less time than a power
+                if times > 0 {
+                    product *= prime.pow(times);
+                }
             }
         }
         product

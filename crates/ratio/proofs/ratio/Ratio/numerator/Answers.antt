@@ -46,11 +46,19 @@ overflow_mul-product c =
     let whole : c.loop-prime.product * c.pow-product.result ≤ 4294967295 = rw (c.loop-prime.invariant, c.pow-product.ensures, power a c.in-Ok.times c.in-Ok.ensures) fits in
     search rules
 
-pub loop-prime-preserved-in-Ok : goal.loop-prime-preserved-in-Ok
-loop-prime-preserved-in-Ok c =
-    let a = (goal.at.loop-prime-preserved-in-Ok c).After-try_from in
+pub loop-prime-preserved-then-times-gt0 : goal.loop-prime-preserved-then-times-gt0
+loop-prime-preserved-then-times-gt0 c =
+    let a = (goal.at.loop-prime-preserved-then-times-gt0 c).After-try_from in
     let r = c.args.self.now in
     simp length_push (cc (c.loop-prime.invariant, c.pow-product.ensures, power a c.in-Ok.times c.in-Ok.ensures, front_more r.exponents r.six (length c.loop-prime.yielded) (turn a).place))
+
+pub loop-prime-preserved-else-times-gt0 : goal.loop-prime-preserved-else-times-gt0
+loop-prime-preserved-else-times-gt0 c =
+    let a = (goal.at.loop-prime-preserved-else-times-gt0 c).After-try_from in
+    let r = c.args.self.now in
+    let none : c.in-Ok.times ≡ 0 = omega (arith, c.if-times-gt0.false) in
+    let one = sym (power a c.in-Ok.times c.in-Ok.ensures) ∙ (ap (λ k. c.in-Some.prime.now ^ k) none ∙ pow-zero c.in-Some.prime.now) in
+    simp length_push (cc (c.loop-prime.invariant, one, front_more r.exponents r.six (length c.loop-prime.yielded) (turn a).place, mul-one c.loop-prime.product))
 
 pub loop-prime-preserved : goal.loop-prime-preserved
 loop-prime-preserved c =
