@@ -10,6 +10,7 @@ use crate::form::{read_cents, read_number, read_place};
 use crate::word::{Word, first_words, full};
 use draft::call::Call;
 use lines::line::LONGEST_LINE;
+use places::Places;
 use ratio::word::read_parts;
 use settling::step::Step;
 
@@ -127,7 +128,11 @@ impl Command {
         if line.len() > LONGEST_LINE {
             return Err(TextFault::TooLong);
         }
-        let words = first_words(line);
+        let mut words = Places::empty(Word {
+            bytes: &[],
+            column: 0,
+        });
+        first_words(line, &mut words);
         let [name, behind @ ..] = words.as_slice() else {
             return Err(TextFault::NoCommand);
         };

@@ -18,22 +18,19 @@ pub(crate) struct Word<'a> {
     pub(crate) column: usize,
 }
 
-/// The first words of the line, as many as are told apart.
-pub(crate) fn first_words(line: &[u8]) -> Places<Word<'_>, MOST_WORDS>
-    ensures { views (listed result) ≡ take 5 (placed 1 (words line.now)) }
+/// Lists the first words of the line, as many as are told apart.
+// stays (speed): the list is lent, since one that is returned is copied twice, which an empty line takes 2.6 of its time for
+pub(crate) fn first_words<'a>(line: &'a [u8], list: &mut Places<Word<'a>, MOST_WORDS>)
+    ensures { views (listed list.new) ≡ take 5 (placed 1 (words line.now)) }
 {
-    let mut words = Places::empty(Word {
-        bytes: &[],
-        column: 0,
-    });
+    list.clear();
     let mut column = 1;
     for bytes in line.split(|byte| *byte == b' ') {
-        if words.push(Word { bytes, column }).is_err() {
+        if list.push(Word { bytes, column }).is_err() {
             break;
         }
         column += bytes.len() + 1;
     }
-    words
 }
 
 /// Whether each of the words has a byte, as it has if no space stands beside another or at the end.
