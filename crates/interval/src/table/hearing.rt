@@ -8,6 +8,7 @@ ghost use Rattle.lines.specs.Splitting.{all_lines};
 use super::Table;
 use crate::answer::Answer;
 use lines::line::Line;
+use lines::split::ends_line;
 
 impl Table {
     /// A table that has heard nothing.
@@ -21,6 +22,11 @@ impl Table {
     pub fn hear(&mut self, byte: u8) -> Option<Answer>
         ensures followed { (past said : List ℕ) → Followed self.old past said → Followed self.new (past ++ (byte ∷ [])) (said ++ spoken result) }
     {
+        // stays (speed): a byte that ends no line is kept here, since Line::hear hands out room for a line at each byte
+        if !ends_line(byte) {
+            self.line.push(byte);
+            return None;
+        }
         self.line.hear(byte).map(answer)
     }
 
