@@ -38,6 +38,8 @@ fn play(rt: &HostRuntime, name: &str) -> io::Result<()> {
         output.write_all(b"> ")?;
         output.write_all(line.as_slice())?;
         output.write_all(b"\n")?;
+        // the line is shown before it is heard, since a settling may take long
+        output.flush()?;
         answered(&mut output, &mut session, line.as_slice())?;
         output.flush()?;
     }
