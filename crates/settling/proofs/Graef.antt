@@ -1,4 +1,5 @@
--- What the bench settles, in Gräf's words.
+-- What the bench settles, in Gräf's words: the best choice by the sum of the distances is an admissible scale of the least
+-- average distance.
 use Rattle.std.proofs.Common.{◌≡◌, ℕ, zero, suc, ◌+◌, ◌-◌, ◌*◌, ◌^◌, ◌<◌, ◌≤◌, true, cond, eqb, List, [], ◌∷◌, map, length, get_or, fold, sum_by, sym, refl, ap, ◌∙◌, subst, ⊎_elim, mul-le-mul_right, mul-pos, le_of_mul-le-mul_right, arith}
 use Rattle.std.specs.List.{ContainsAt, AllByRecursion}
 use Rattle.std.proofs.lemmas.List.{same_lists, get_or_default, length-append, length-map}
@@ -6,7 +7,7 @@ use Rattle.std.proofs.ByRecursion.{has_get_or, sum_by_le}
 use Rattle.std.proofs.lemmas.List.FromFn.{get_or-map-range_with_len, length-map-range_with_len, length-range_with_len}
 use Rattle.std.proofs.lemmas.List.Sums.{sum_by-cons, sum_by-append, sum_by_push}
 use Rattle.std.proofs.lemmas.Bool.{cases_lt, cond-true, cond-false, eq-eqb, ne_eqb, leb-true, le-leb}
-use Rattle.settling.specs.Settling.{Problem, Choice, below, pairs, laid, apart, keeps, cost}
+use Rattle.settling.specs.Settling.{Problem, Choice, below, pairs, laid, apart, keeps, cost, Best}
 use Rattle.costing.specs.Costs.{added}
 use Rattle.settling.specs.Costings.{total}
 use Rattle.settling.specs.Graef.{Symmetric, Scale, Admissible, InGraefsWords, spread, NoWider, pitches}
@@ -203,6 +204,19 @@ module _ {R : Type 0} (p : Problem R) (none : R) (sym_p : Symmetric p) where
         let less = le_of_mul-le-mul_right {m = spread p none (pitches p none s)} {n = spread p none (pitches p none t)} {k = n} crossed some in
         omega (arith, less, spread_cost s few, spread_cost t (omega arith)))
         (cases_lt (length s) 2))
+
+    -- the best choice by the sum of the distances lays an admissible scale, and no admissible scale has a lower average distance
+    pub best_scale : (s : List ℕ) → length p.candidates ≤ 32 → Best p none total s → Admissible p none (pitches p none s) × ((xs : List R) → Admissible p none xs → NoWider p none (pitches p none s) xs)
+    best_scale s few b = (
+      keeps_admissible p none sym_p s b.choice b.kept,
+      λ xs a.
+          let found = scale_choice p none xs a.scale in
+          let t = found.0 in
+          let kept = admissible_keeps p none t (subst (Admissible p none) (sym found.2) a) in
+          let es = b.choice.full in
+          let et = found.1.full in
+          subst (NoWider p none (pitches p none s)) found.2 (no_more_no_wider s t (es ∙ sym et) (omega arith) (b.cheapest t found.1 kept)),
+    )
 
     pub in_graefs_words : length p.candidates ≤ 32 → InGraefsWords p none
     in_graefs_words few = record {

@@ -1,11 +1,12 @@
 -- What holds of each of a list, of each number below another, of each pair of tones, and of each choice.
-use Rattle.std.proofs.Common.{◌≡◌, ℕ, zero, suc, ◌+◌, ◌<◌, Bool, true, List, [], ◌∷◌, ◌++◌, map, length, get_or, sum_by, sym, refl, ap, ◌∙◌, subst, arith}
-use Rattle.std.specs.List.{flat_map, AllByRecursion}
+use Rattle.std.proofs.Common.{◌≡◌, ℕ, zero, suc, ◌+◌, ◌<◌, Bool, true, false, List, [], ◌∷◌, ◌++◌, map, length, get_or, sum_by, sym, refl, ap, ◌∙◌, subst, ⊎_elim, arith}
+use Rattle.std.specs.List.{ContainsAt, flat_map, AllByRecursion}
 use Rattle.std.proofs.lemmas.List.{map-id, flat_map_more}
-use Rattle.std.proofs.ByRecursion.{All-get_or, All-from_get_or, All-append, All-map, All-weaker}
+use Rattle.std.proofs.ByRecursion.{All-get_or, All-from_get_or, All-append, All-map, all-has, all_has_itself, All-weaker}
 use Rattle.std.proofs.lemmas.List.FromFn.{length-range_with_len, get_or-range_with_len, map-range_with_len_more}
 use Rattle.std.proofs.lemmas.List.Elements.{All-from_recursion, recursion_from_All}
 use Rattle.std.proofs.lemmas.List.Sums.{AllPass-from_list_all, list_all-from_AllPass, sum_by-cons, sum_by-append}
+use Rattle.std.proofs.lemmas.Bool.{and_cases, both_ways}
 use Rattle.settling.specs.Settling.{all, below, pairs, Choice, choices}
 
 module _ {A : Type 0} (t : A → Bool) where
@@ -14,6 +15,11 @@ module _ {A : Type 0} (t : A → Bool) where
 
   pub true_all : (xs : List A) → AllByRecursion (λ x. t x ≡ true) xs → all t xs ≡ true
   true_all xs h = list_all-from_AllPass t xs (All-from_recursion (λ x. t x ≡ true) xs h)
+
+  -- where a test fails of a list, it fails of one of its elements
+  pub one_fails : (P : A → Type 0) (xs : List A) → AllByRecursion P xs → all t xs ≡ false → (x : A) × P x × (t x ≡ false)
+  one_fails P [] h e = absurd (both_ways true e refl)
+  one_fails P (x ∷ xs) h e = ⊎_elim (λ f. (x, h.0, f)) (λ f. one_fails P xs h.1 f) (and_cases (t x) (all t xs) e)
 
 module _ {A : Type 0} (P : A → Type 0) where
   append_all : (xs ys : List A) → AllByRecursion P (xs ++ ys) → AllByRecursion P xs × AllByRecursion P ys
@@ -104,6 +110,13 @@ module _ {R : Type 0} where
       (map_all P (λ s. n ∷ s) (choices tones)
       (below_all (λ n. AllByRecursion P (map (λ s. n ∷ s) (choices tones))) (length cs) (gathered_all P (λ n. map (λ s. n ∷ s) (choices tones)) (below (length cs)) h) n (ch.listed 0 (omega arith))))
       s (choice_rest n s cs tones ch)
+
+  -- the choices are exactly what is listed
+  pub has_choice : (tones : List (List R)) (s : List ℕ) → Choice tones s → ContainsAt (choices tones) s
+  has_choice tones s ch = every_choice tones (ContainsAt (choices tones)) (all_has_itself (choices tones)) s ch
+
+  pub choice_from_has : (tones : List (List R)) (s : List ℕ) → ContainsAt (choices tones) s → Choice tones s
+  choice_from_has tones s h = all-has (Choice tones) (choices tones) s (all_choice tones) h
 
   -- a choice, and a number for one tone more
   pub choice_push : (tones : List (List R)) (cs : List R) (s : List ℕ) (q : ℕ) → Choice tones s → q < length cs → Choice (tones ++ (cs ∷ [])) (s ++ (q ∷ []))

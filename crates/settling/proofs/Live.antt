@@ -3,9 +3,9 @@ use Rattle.std.proofs.Common.{◌≡◌, ℕ, true, false, not, ◌&&◌, List, 
 use Rattle.std.proofs.lemmas.List.{length-append}
 use Rattle.std.proofs.Math.Seq.{take-add}
 use Rattle.std.proofs.ByRecursion.{All-weaker}
-use Rattle.std.proofs.lemmas.Bool.{and_parts, and_from, cases_Bool, both_ways, not-true, not_from_false}
+use Rattle.std.proofs.lemmas.Bool.{and_parts, and_from, and_cases, cases_Bool, both_ways, not-true, not-false, not_from_false}
 use Rattle.settling.specs.Settling.{Costing, Lawful, Problem, Choice, choices, before, all, keeps, cost, bars, live}
-use Rattle.settling.proofs.Listed.{all_true, true_all, all_choice, every_choice}
+use Rattle.settling.proofs.Listed.{all_true, true_all, one_fails, all_choice, every_choice}
 use Rattle.settling.proofs.Order.{before_append}
 use Rattle.settling.proofs.Kept.{keeps_front, cost_grows}
 
@@ -47,6 +47,15 @@ module _ {R : Type 0} (p : Problem R) (none : R) {V : Type 0} (c : Costing V) wh
       (λ e. not_from_false (bars p none c f s) e) (cases_Bool (bars p none c f s)))
       (choices p.candidates) (all_choice p.candidates)))
 
+  -- a start that keeps the bounds and is not live is barred by some choice
+  pub dead_barred : (s : List ℕ) → keeps p none s ≡ true → live p none c s ≡ false → Barred s
+  dead_barred s k e =
+      ⊎_elim (λ broken. absurd (both_ways (keeps p none s) broken k))
+      (λ some. let found = one_fails (λ f. not (bars p none c f s)) (Choice p.candidates) (choices p.candidates) (all_choice p.candidates) some in
+      let parts = bars_parts found.0 s (not-false (bars p none c found.0 s) found.2) in
+      record { bar = found.0; choice = found.1; earlier = parts.0; kept = parts.1; cheap = parts.2 })
+      (and_cases (keeps p none s) (all (λ f. not (bars p none c f s)) (choices p.candidates)) e)
+
   module _ (law : Lawful c) where
     -- what bars a start bars all that extend it
     pub barred_under : (s t : List ℕ) → Barred s → Barred (s ++ t)
@@ -66,3 +75,7 @@ module _ {R : Type 0} (p : Problem R) (none : R) {V : Type 0} (c : Costing V) wh
     pub dead_under : (s t : List ℕ) → live p none c s ≡ false → live p none c (s ++ t) ≡ false
     dead_under s t e =
         ⊎_elim (λ l. absurd (both_ways (live p none c s) e (live_front s t l))) (λ d. d) (cases_Bool (live p none c (s ++ t)))
+
+    -- where a start is not live, each kept choice that extends it costs no less than some kept choice before it
+    pub dead_no_better : (s t : List ℕ) → live p none c s ≡ false → keeps p none (s ++ t) ≡ true → Barred (s ++ t)
+    dead_no_better s t e k = barred_under s t (dead_barred s (keeps_front p none s t k) e)
