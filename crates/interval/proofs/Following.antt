@@ -27,11 +27,11 @@ held_named line past r e n =
     (λ (h : length line ≤ 80). subst (λ l. Named l r) (heard_whole line past e h) n)
     (cases_lt 80 (length line))
 
-answered_held : (line past text : List ℕ) → line ≡ take 81 past → Answered line text → Answered past text
+pub answered_held : (line past text : List ℕ) → line ≡ take 81 past → Answered line text → Answered past text
 answered_held line past text e a = record { named = a.named; names = held_named line past a.named e a.names; is = a.is }
 
 -- one line and its answer more
-answered_more : (lines : List (List ℕ)) (said line text : List ℕ) → AllAnswered lines said → Answered line text → AllAnswered (lines ++ (line ∷ [])) (said ++ (text ++ (10 ∷ [])))
+pub answered_more : (lines : List (List ℕ)) (said line text : List ℕ) → AllAnswered lines said → Answered line text → AllAnswered (lines ++ (line ∷ [])) (said ++ (text ++ (10 ∷ [])))
 answered_more [] said line text all one = (text, ([], one, refl, ap (λ s. s ++ (text ++ (10 ∷ []))) all))
 answered_more (l ∷ lines) said line text all one =
     let first = all.0 in
