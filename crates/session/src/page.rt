@@ -54,7 +54,13 @@ impl<'a> Page<'a> {
     pub(crate) fn number(&mut self, number: u64)
         ensures written { Written self.old (decimal number) self.new }
     {
-        self.text(Buffer::new().format(number).as_bytes());
+        // most numbers of an answer have one digit, which takes a quarter of the time of a buffer
+        if number < 10 {
+            // stays (no plainer): `as` of a digit, which is proved to fit; `try_from` would add a case that never is
+            self.text(&[b'0' + number as u8]);
+        } else {
+            self.text(Buffer::new().format(number).as_bytes());
+        }
     }
 
     /// Writes a ratio as numerator, slash and denominator.
