@@ -19,7 +19,7 @@ pub(crate) struct Word<'a> {
 }
 
 /// Lists the first words of the line, as many as are told apart.
-// stays (speed): the list is lent, since one that is returned is copied twice, which an empty line takes 2.6 of its time for
+// stays (speed): lent, since a list that is returned is copied twice: 12 million empty lines took 0.92 s, and take 0.71
 pub(crate) fn first_words<'a>(line: &'a [u8], list: &mut Places<Word<'a>, MOST_WORDS>)
     ensures { views (listed list.new) ≡ take 5 (placed 1 (words line.now)) }
 {

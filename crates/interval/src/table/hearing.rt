@@ -22,7 +22,7 @@ impl Table {
     pub fn hear(&mut self, byte: u8) -> Option<Answer>
         ensures followed { (past said : List ℕ) → Followed self.old past said → Followed self.new (past ++ (byte ∷ [])) (said ++ spoken result) }
     {
-        // stays (speed): a byte that ends no line is kept here, since Line::hear hands out room for a line at each byte
+        // stays (speed): Line::hear hands out room for a line at each byte: 100 million bytes of long lines took 2.7 s, not 0.8
         if !ends_line(byte) {
             self.line.push(byte);
             return None;
