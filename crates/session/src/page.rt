@@ -54,7 +54,7 @@ impl<'a> Page<'a> {
     pub(crate) fn number(&mut self, number: u64)
         ensures written { Written self.old (decimal number) self.new }
     {
-        // most numbers of an answer have one digit, which takes a quarter of the time of a buffer
+        // most numbers of an answer have one digit, which takes a quarter of the instructions of a buffer
         if number < 10 {
             // stays (no plainer): `as` of a digit, which is proved to fit; `try_from` would add a case that never is
             self.text(&[b'0' + number as u8]);
